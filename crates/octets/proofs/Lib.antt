@@ -1,0 +1,5 @@
+pub mod PatchLaws
+pub mod PartLaws
+pub mod NumberLaws
+pub mod RunLaws
+mod Moves

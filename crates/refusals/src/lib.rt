@@ -1,0 +1,89 @@
+// What comes back when a call will not (document 01, "What comes back when it will not"): one refusal for each number of
+// the table, 7, 8 and 9 with the proof that they speak of.
+ghost use mathlib.Core.Path.{_≡_};
+ghost use Rattle.refusals.specs.Numbers.{numberOf, proofOf, proofNumber, verdictNumber};
+
+// Which proof of a command: Delete carries two, the others one, their First.
+pub enum Which {
+    First,
+    Second,
+}
+
+pub enum Refusal {
+    BadImage,
+    BadPosition,
+    BadHeight,
+    Full,
+    NoRoom,
+    TooDeep,
+    BadProof(Which),
+    WrongPosition(Which),
+    WrongLabel(Which),
+    NotNeighbours,
+    LongMessage,
+    BadMetadata,
+}
+
+pub enum Verdict {
+    Done,
+    Refused(Refusal),
+}
+
+// The refusal's number in document 01's table.
+pub fn number(r: Refusal) -> u8
+    ensures { λ n. ⌜ n ≡ numberOf r ⌝ }
+{
+    match r {
+        Refusal::BadImage => 1,
+        Refusal::BadPosition => 2,
+        Refusal::BadHeight => 3,
+        Refusal::Full => 4,
+        Refusal::NoRoom => 5,
+        Refusal::TooDeep => 6,
+        Refusal::BadProof(_) => 7,
+        Refusal::WrongPosition(_) => 8,
+        Refusal::WrongLabel(_) => 9,
+        Refusal::NotNeighbours => 10,
+        Refusal::LongMessage => 11,
+        Refusal::BadMetadata => 12,
+    }
+}
+
+// 0 where nothing was refused, else the refusal's number.
+pub fn verdict_number(v: Verdict) -> u8
+    ensures { λ n. ⌜ n ≡ verdictNumber v ⌝ }
+{
+    match v {
+        Verdict::Done => 0,
+        Verdict::Refused(r) => number(r),
+    }
+}
+
+fn ordinal(w: Which) -> u8
+    ensures { λ n. ⌜ n ≡ proofNumber w ⌝ }
+{
+    match w {
+        Which::First => 1,
+        Which::Second => 2,
+    }
+}
+
+// The proof that a refusal speaks of: 1 the first, 2 the second, 0 none.
+pub fn proof(r: Refusal) -> u8
+    ensures { λ n. ⌜ n ≡ proofOf r ⌝ }
+{
+    match r {
+        Refusal::BadImage => 0,
+        Refusal::BadPosition => 0,
+        Refusal::BadHeight => 0,
+        Refusal::Full => 0,
+        Refusal::NoRoom => 0,
+        Refusal::TooDeep => 0,
+        Refusal::BadProof(w) => ordinal(w),
+        Refusal::WrongPosition(w) => ordinal(w),
+        Refusal::WrongLabel(w) => ordinal(w),
+        Refusal::NotNeighbours => 0,
+        Refusal::LongMessage => 0,
+        Refusal::BadMetadata => 0,
+    }
+}
