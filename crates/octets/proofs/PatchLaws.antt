@@ -125,3 +125,16 @@ unfolding patch
 drop-patch xs ys a b e h =
     let l : length (take a xs ++ ys) ≡ b = simp (length-append, length-take-le a xs (omega arith)) e in
     rw (← append-assoc (take a xs) ys (drop (a + length ys) xs), e) (drop-at (take a xs ++ ys) (drop b xs) b l)
+
+-- a patch is settled by what lies before it and behind it
+patch-around : (xs ws zs : List ℕ) (a : ℕ) → take a ws ≡ take a xs → drop (a + length zs) ws ≡ drop (a + length zs) xs
+    → patch ws a zs ≡ patch xs a zs
+unfolding patch
+patch-around xs ws zs a t d = rw (t, d)
+
+-- a patch over a patch of the same length
+pub patch-over : (xs ys zs : List ℕ) (a : ℕ) → length ys ≡ length zs → a + length ys ≤ length xs
+    → patch (patch xs a ys) a zs ≡ patch xs a zs
+patch-over xs ys zs a e h =
+    patch-around xs (patch xs a ys) zs a (take-patch xs ys a (omega arith))
+    (drop-patch xs ys a (a + length zs) (omega arith) (omega arith))

@@ -2,6 +2,7 @@
 // the table, 7, 8 and 9 with the proof that they speak of.
 ghost use mathlib.Core.Path.{_≡_};
 ghost use Rattle.refusals.specs.Numbers.{numberOf, proofOf, proofNumber, verdictNumber};
+ghost use Rattle.refusals.specs.Order.{isDone};
 
 // Which proof of a command: Delete carries two, the others one, their First.
 pub enum Which {
@@ -46,6 +47,15 @@ pub fn number(r: Refusal) -> u8
         Refusal::NotNeighbours => 10,
         Refusal::LongMessage => 11,
         Refusal::BadMetadata => 12,
+    }
+}
+
+pub fn is_done(v: Verdict) -> bool
+    ensures { λ r. ⌜ r ≡ isDone v ⌝ }
+{
+    match v {
+        Verdict::Done => true,
+        Verdict::Refused(_) => false,
     }
 }
 

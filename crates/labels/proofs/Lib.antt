@@ -1,0 +1,5 @@
+mod TagLaws
+mod HeightLaws
+mod Joins
+pub mod CodeLaws
+pub mod Unique

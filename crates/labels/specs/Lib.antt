@@ -1,0 +1,3 @@
+pub mod Tags
+pub mod Heights
+pub mod CodeSides

@@ -1,0 +1,174 @@
+// Tags, heights and labels: a block's tag and its match, the height drawn from a coin word, and the sides of a tree by value.
+ghost use mathlib.Core.Path.{_≡_};
+ghost use mathlib.Core.List.{_∷_, [], _++_};
+ghost use Prim.Native.Nat.{_≤_};
+ghost use lib.ListN.{length};
+ghost use Rattle.octets.specs.Numbers.{be};
+ghost use Rattle.sha256.specs.Hash.{sha256};
+ghost use Rattle.sha256.specs.Answer.{longest};
+ghost use Rattle.skiplist.specs.Label.{labelOf};
+ghost use Rattle.skiplist.specs.Blocks.{itemOf};
+ghost use Rattle.labels.specs.Tags.{Tags, Matches};
+ghost use Rattle.labels.specs.Heights.{heightOf};
+ghost use Rattle.labels.specs.CodeSides.{messageOf, message, noSide, leafOf, nodeOf};
+use refusals::Verdict;
+
+pub struct Tagged {
+    pub verdict: Verdict,
+    pub tag: [u8; 32],
+}
+
+pub struct Matched {
+    pub verdict: Verdict,
+    pub yes: bool,
+}
+
+// A block's tag, the digest of its readings; 11 for a long block.
+pub fn tag(block: &[u8]) -> Tagged
+    ensures { λ r. ⌜ Tags (now (block .entry)) r ⌝ }
+{
+    let d = sha256::digest(block);
+    let bytes = d.bytes;
+    let v = d.verdict;
+    Tagged {
+        verdict: v,
+        tag: bytes,
+    }
+}
+
+// Is this the tag of that block? 11 for a long block.
+pub fn matches(tag: [u8; 32], block: &[u8]) -> Matched
+    ensures { λ r. ⌜ Matches tag (now (block .entry)) r ⌝ }
+{
+    let t = self::tag(block);
+    let v = t.verdict;
+    if refusals::is_done(v) {
+        let bytes = t.tag;
+        return Matched {
+            verdict: v,
+            yes: octets::same32(bytes, tag),
+        };
+    }
+    Matched {
+        verdict: v,
+        yes: false,
+    }
+}
+
+// The height drawn from a coin word.
+pub fn height(word: u16) -> u8
+    ensures { λ r. ⌜ r ≡ heightOf word ⌝ }
+{
+    let n = u16::trailing_zeros(word);
+    if n < 15 { n as u8 } else { 15 }
+}
+
+// What stands at a leaf's right, below a node or at its right, as its rank and label. An empty side is not one of rank 0: a leaf
+// of the head alone has rank 0 and a label.
+pub struct Side {
+    pub rank: u64,
+    pub label: [u8; 32],
+    pub empty: bool,
+}
+
+pub fn no_side() -> Side
+    ensures { λ r. ⌜ r ≡ noSide ⌝ }
+{
+    Side {
+        rank: 0,
+        label: [0u8; 32],
+        empty: true,
+    }
+}
+
+// The digest of a message that is not long.
+fn hashed(m: &[u8]) -> [u8; 32]
+    requires { ⌜ length (now m) ≤ longest ⌝ }
+    ensures { λ r. ⌜ r ≡ sha256 (now (m .entry)) ⌝ }
+{
+    let d = sha256::digest(m);
+    d.bytes
+}
+
+fn of_byte(x: u8) -> [u8; 32]
+    ensures { λ r. ⌜ r ≡ sha256 (x ∷ []) ⌝ }
+{
+    let m = [x];
+    hashed(&m)
+}
+
+fn of_number(n: u64) -> [u8; 32]
+    ensures { λ r. ⌜ r ≡ sha256 (be 4 n) ⌝ }
+{
+    let mut m = [0u8; 4];
+    octets::put_four(&mut m, 0, n);
+    hashed(&m)
+}
+
+// The digest of 32 bytes, or of the ONE byte 0 where there is nothing.
+fn of_message(nothing: bool, bytes: [u8; 32]) -> [u8; 32]
+    ensures { λ r. ⌜ r ≡ sha256 (messageOf nothing bytes) ⌝ }
+{
+    if nothing {
+        return of_byte(0);
+    }
+    hashed(&bytes)
+}
+
+fn join(m: &mut [u8], a: [u8; 32], b: [u8; 32], c: [u8; 32], d: [u8; 32])
+    requires { ⌜ (length (now m) ≡ 128) × (length a ≡ 32) × (length b ≡ 32) × (length c ≡ 32) × (length d ≡ 32) ⌝ }
+    ensures { λ _. ⌜ now (m .exit) ≡ a ++ (b ++ (c ++ d)) ⌝ }
+{
+    octets::copy(m, 0, &a);
+    octets::copy(m, 32, &b);
+    octets::copy(m, 64, &c);
+    octets::copy(m, 96, &d);
+}
+
+fn of_four(a: [u8; 32], b: [u8; 32], c: [u8; 32], d: [u8; 32]) -> [u8; 32]
+    ensures { λ r. ⌜ r ≡ sha256 (a ++ (b ++ (c ++ d))) ⌝ }
+{
+    let mut m = [0u8; 128];
+    join(&mut m, a, b, c, d);
+    hashed(&m)
+}
+
+// Definition 3.1: level, rank, third and right are hashed in this order, then their four digests joined.
+fn label(level: u8, rank: u64, no_third: bool, third: [u8; 32], right: Side) -> [u8; 32]
+    ensures { λ r. ⌜ r ≡ labelOf sha256 level rank (messageOf «no_third» third) (message right) ⌝ }
+{
+    let r = right.label;
+    of_four(
+        of_byte(level),
+        of_number(rank),
+        of_message(no_third, third),
+        of_message(right.empty, r),
+    )
+}
+
+// A leaf with its right side.
+pub fn leaf(own: u64, tag: [u8; 32], right: Side) -> Side
+    ensures { λ r. ⌜ r ≡ leafOf (itemOf own tag) right ⌝ }
+{
+    let n = std::num::wrapping_add_u64(own, right.rank);
+    let l = label(0, n, own == 0, tag, right);
+    Side {
+        rank: n,
+        label: l,
+        empty: false,
+    }
+}
+
+// A node with its lower and its right side.
+pub fn node(level: u8, lower: Side, right: Side) -> Side
+    ensures { λ r. ⌜ r ≡ nodeOf level lower right ⌝ }
+{
+    let n = std::num::wrapping_add_u64(lower.rank, right.rank);
+    let t = lower.label;
+    let l = label(level, n, lower.empty, t, right);
+    Side {
+        rank: n,
+        label: l,
+        empty: false,
+    }
+}

@@ -1,0 +1,9 @@
+pub mod Digits
+pub mod Rotations
+pub mod Schedules
+pub mod Rounds
+pub mod Endings
+pub mod Hashes
+pub mod Answers
+pub mod Fractions
+pub mod Vectors

@@ -1,0 +1,6 @@
+pub mod Words
+pub mod Constants
+pub mod Roots
+pub mod Padding
+pub mod Hash
+pub mod Answer

@@ -1,0 +1,211 @@
+// SHA-256 (FIPS 180-4) of messages of at most 4,096 bytes. Section numbers are those of FIPS 180-4.
+use refusals::Refusal;
+use refusals::Verdict;
+use std::num::wrapping_add_u32;
+
+mod tables;
+mod words;
+
+ghost use mathlib.Core.Path.{_≡_};
+ghost use mathlib.Core.List.{List};
+ghost use Prim.Native.Nat.{ℕ, _+_, _/_, _≤_};
+ghost use lib.ListN.{length, take, replicate};
+ghost use Rattle.sha256.specs.Constants.{constants, initial};
+ghost use Rattle.sha256.specs.Padding.{padded, blocks, Ends};
+ghost use Rattle.sha256.specs.Hash.{mixed, schedule, firstSum, secondSum, round, rounds, sums};
+ghost use Rattle.sha256.specs.Hash.{compressed, hashed, joined};
+ghost use Rattle.sha256.specs.Answer.{longest, Answers};
+
+// The longest message that is digested, in bytes.
+const LONGEST: usize = 4096;
+
+// A message's digest, or a refusal with 32 zero bytes.
+pub struct Digested {
+    pub verdict: Verdict,
+    pub bytes: [u8; 32],
+}
+
+// 6.2.2, 1: the message schedule. A word of it from 16 on; the first sixteen words; all of them.
+fn next_word(w2: u32, w7: u32, w15: u32, w16: u32) -> u32
+    ensures { λ r. ⌜ r ≡ mixed w2 w7 w15 w16 ⌝ }
+{
+    let a = wrapping_add_u32(words::small_sigma1(w2), w7);
+    let b = wrapping_add_u32(a, words::small_sigma0(w15));
+    wrapping_add_u32(b, w16)
+}
+
+fn load(b: &[u8]) -> [u32; 64]
+    requires { ⌜ length (now b) ≡ 64 ⌝ }
+    ensures { λ r. ⌜ take 16 r ≡ schedule (now (b .entry)) 16 ⌝ }
+{
+    let mut w = [0u32; 64];
+    for t in 0..16 {
+        w[t] = octets::four_at(b, t * 4) as u32;
+    }
+    w
+}
+
+fn expand(first: [u32; 64]) -> [u32; 64]
+    ensures { λ r. ⌜ ((b : List ℕ) → take 16 first ≡ schedule b 16 → r ≡ schedule b 64) ⌝ }
+{
+    let mut w = first;
+    for t in 16..64 {
+        w[t] = next_word(w[t - 2], w[t - 7], w[t - 15], w[t - 16]);
+    }
+    w
+}
+
+// 6.2.2, 3: the two sums of a round, and the round.
+fn first_sum(e: u32, f: u32, g: u32, h: u32, k: u32, w: u32) -> u32
+    ensures { λ r. ⌜ r ≡ firstSum e f g h k w ⌝ }
+{
+    let a = wrapping_add_u32(h, words::big_sigma1(e));
+    let b = wrapping_add_u32(a, words::choose(e, f, g));
+    let c = wrapping_add_u32(b, k);
+    wrapping_add_u32(c, w)
+}
+
+fn second_sum(a: u32, b: u32, c: u32) -> u32
+    ensures { λ r. ⌜ r ≡ secondSum a b c ⌝ }
+{
+    wrapping_add_u32(words::big_sigma0(a), words::majority(a, b, c))
+}
+
+fn one_round(s: [u32; 8], k: u32, w: u32) -> [u32; 8]
+    ensures { λ r. ⌜ r ≡ round s k w ⌝ }
+{
+    let t1 = first_sum(s[4], s[5], s[6], s[7], k, w);
+    let t2 = second_sum(s[0], s[1], s[2]);
+    let a = wrapping_add_u32(t1, t2);
+    let e = wrapping_add_u32(s[3], t1);
+    [a, s[0], s[1], s[2], e, s[4], s[5], s[6]]
+}
+
+// Rounds t to t + 7.
+fn eight_rounds<'a>(k: &'a [u32; 64], w: &'a [u32; 64], s: [u32; 8], t: usize) -> [u32; 8]
+    requires { ⌜ (now k ≡ constants) × (t + 8 ≤ 64) ⌝ }
+    ensures { λ r. ⌜ ((s₀ : List ℕ) → s ≡ rounds (now (w .entry)) s₀ t → r ≡ rounds (now (w .entry)) s₀ (t + 8)) ⌝ }
+{
+    let s = one_round(s, k[t], w[t]);
+    let s = one_round(s, k[t + 1], w[t + 1]);
+    let s = one_round(s, k[t + 2], w[t + 2]);
+    let s = one_round(s, k[t + 3], w[t + 3]);
+    let s = one_round(s, k[t + 4], w[t + 4]);
+    let s = one_round(s, k[t + 5], w[t + 5]);
+    let s = one_round(s, k[t + 6], w[t + 6]);
+    one_round(s, k[t + 7], w[t + 7])
+}
+
+// 6.2.2, 4: the next hash value.
+fn add_states(s: [u32; 8], v: [u32; 8]) -> [u32; 8]
+    ensures { λ r. ⌜ r ≡ sums s v ⌝ }
+{
+    let a = wrapping_add_u32(v[0], s[0]);
+    let b = wrapping_add_u32(v[1], s[1]);
+    let c = wrapping_add_u32(v[2], s[2]);
+    let d = wrapping_add_u32(v[3], s[3]);
+    let e = wrapping_add_u32(v[4], s[4]);
+    let f = wrapping_add_u32(v[5], s[5]);
+    let g = wrapping_add_u32(v[6], s[6]);
+    let h = wrapping_add_u32(v[7], s[7]);
+    [a, b, c, d, e, f, g, h]
+}
+
+// 6.2.2, 1 to 4, for one block. No other function knows how the schedule is held.
+fn compress<'a>(k: &'a [u32; 64], s: [u32; 8], b: &'a [u8]) -> [u32; 8]
+    requires { ⌜ (now k ≡ constants) × (length (now b) ≡ 64) ⌝ }
+    ensures { λ r. ⌜ r ≡ compressed s (now (b .entry)) ⌝ }
+{
+    let w = expand(load(b));
+    let mut v = s;
+    for i in 0..8 {
+        let next = eight_rounds(k, &w, v, i * 8);
+        v = next;
+    }
+    add_states(s, v)
+}
+
+// 6.2.2: the whole blocks of b, one after the other. What is left of b is not read.
+fn absorb<'a>(k: &'a [u32; 64], start: [u32; 8], b: &'a [u8]) -> [u32; 8]
+    requires { ⌜ now k ≡ constants ⌝ }
+    ensures { λ r. ⌜ r ≡ hashed start (now (b .entry)) (length (now (b .entry)) / 64) ⌝ }
+{
+    let n = b.len() / 64;
+    let mut s = start;
+    for i in 0..n {
+        let at = i * 64;
+        let next = compress(k, s, &b[at..at + 64]);
+        s = next;
+    }
+    s
+}
+
+// How many blocks a message of n bytes has when padded.
+fn block_count(n: usize) -> usize
+    requires { ⌜ n ≤ longest ⌝ }
+    ensures { λ r. ⌜ r ≡ blocks n ⌝ }
+{
+    (n + 72) / 64
+}
+
+// 5.1.1: the end of the padded message, after the message's whole blocks, in one or two blocks of t: the message's last
+// bytes, the byte 128, zeros, and the length in bits, of whose eight bytes the first four are 0. Answers their length.
+fn end_blocks(t: &mut [u8], m: &[u8]) -> usize
+    requires { ⌜ (now t ≡ replicate 128 0) × (length (now m) ≤ longest) ⌝ }
+    ensures { λ r. ⌜ Ends (now (m .entry)) (now (t .exit)) r ⌝ }
+{
+    let n = m.len();
+    let rest = n % 64;
+    let end = block_count(rest) * 64;
+    octets::copy(t, 0, &m[n / 64 * 64..n]);
+    t[rest] = 128;
+    octets::put_four(t, end - 4, (n * 8) as u64);
+    end
+}
+
+// 6.2: the hash value of a message. Its whole blocks are read where they stand.
+fn hash(m: &[u8]) -> [u32; 8]
+    requires { ⌜ length (now m) ≤ longest ⌝ }
+    ensures { λ r. ⌜ r ≡ hashed initial (padded (now (m .entry))) (blocks (length (now (m .entry)))) ⌝ }
+{
+    let k = tables::table();
+    let s = absorb(&k, tables::INITIAL, m);
+    let mut t = [0u8; 128];
+    let end = end_blocks(&mut t, m);
+    absorb(&k, s, &t[0..end])
+}
+
+// The word as a wider number.
+fn wide(x: u32) -> u64
+    ensures { λ r. ⌜ r ≡ x ⌝ }
+{
+    x as u64
+}
+
+// 3.1: the words of a hash value, the highest byte of each first.
+fn to_bytes(s: [u32; 8]) -> [u8; 32]
+    ensures { λ r. ⌜ r ≡ joined s ⌝ }
+{
+    let mut out = [0u8; 32];
+    for i in 0..8 {
+        octets::put_four(&mut out, i * 4, wide(s[i]));
+    }
+    out
+}
+
+// The digest of a message of at most 4,096 bytes. A longer one is refused.
+pub fn digest(m: &[u8]) -> Digested
+    ensures { λ r. ⌜ Answers (now (m .entry)) r ⌝ }
+{
+    if m.len() <= LONGEST {
+        let bytes = to_bytes(hash(m));
+        return Digested {
+            verdict: Verdict::Done,
+            bytes,
+        };
+    }
+    Digested {
+        verdict: Verdict::Refused(Refusal::LongMessage),
+        bytes: [0u8; 32],
+    }
+}
