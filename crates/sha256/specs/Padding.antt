@@ -7,7 +7,7 @@ use lib.ListN.{length, take, drop, replicate}
 use Rattle.octets.specs.Numbers.{be}
 use Rattle.octets.specs.Runs.{part}
 
--- 5.1.1: "Append the bit "1" to the end of the message, followed by k zero bits, where k is the smallest, non-negative
+-- 5.1.1: "Append the bit “1” to the end of the message, followed by k zero bits, where k is the smallest, non-negative
 -- solution to the equation l + 1 + k = 448 mod 512." For a message of n bytes k is 7 + 8 * zeros n: the bit and seven
 -- zeros are the byte 128, and after it come so many zero bytes
 abbrev pub zeros : ℕ → ℕ
