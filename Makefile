@@ -1,10 +1,10 @@
-# `make demo` runs the main job, `make test` the gate. Both do all their own set-up.
+# `make demo` tells what the product does, `make test` runs the gate. Both do all their own set-up.
 .PHONY: demo test
 
-# FIPS 180-4's vectors through the proved digest.
+# The first run proves the crates below the demo before it is built, which takes some minutes.
 demo:
-	@rt check vectors
-	@cat crates/vectors/stdout
+	@mkdir -p target && rt check demo > target/demo.log 2>&1 || { cat target/demo.log; exit 1; }
+	@tests/support/run demo
 
 test:
 	@.ci/run

@@ -1,0 +1,347 @@
+// Calls in frames on standard input, answers in frames on standard output, so that any program can be compared with this one call
+// by call. docs/TESTING.md has the frames. A bad frame ends the run with a line that says so; input that ends between frames ends
+// it silently.
+ghost use mathlib.Core.Path.{_≡_};
+ghost use Prim.Native.Nat.{_+_, _≤_};
+ghost use lib.ListN.{length};
+use commands::Command;
+use commands::Metadata;
+use commands::Operation;
+use refusals::Verdict;
+
+const MOST_FRAME: usize = 200000;
+
+const MOST_BUFFER: usize = 16384;
+
+const UNTOUCHED: u8 = 0xA5;
+
+// Every field of an answer; those that a call does not speak of are zero.
+struct Fields {
+    verdict: Verdict,
+    tag: [u8; 32],
+    metadata: Metadata,
+    length: u64,
+    entries: u64,
+    count: u64,
+    yes: bool,
+}
+
+fn blank(verdict: Verdict) -> Fields {
+    Fields {
+        verdict,
+        tag: [0u8; 32],
+        metadata: Metadata {
+            count: 0,
+            label: [0u8; 32],
+        },
+        length: 0,
+        entries: 0,
+        count: 0,
+        yes: false,
+    }
+}
+
+// The proof that a verdict speaks of, 0 for none.
+fn which(v: Verdict) -> u8 {
+    match v {
+        Verdict::Done => 0,
+        Verdict::Refused(r) => refusals::proof(r),
+    }
+}
+
+fn bit(yes: bool) -> u8 {
+    if yes { 1 } else { 0 }
+}
+
+// An answer's 87 bytes in front of the lent bytes: the length of the rest, the refusal's number and proof, the tag,
+fn put_front(d: &mut [u8], v: Verdict, tag: [u8; 32], lent: usize)
+    requires { ⌜ length (now d) ≡ 87 ⌝ }
+{
+    octets::put_four(d, 0, std::num::wrapping_add_u64(83, lent as u64));
+    octets::put_one(d, 4, refusals::verdict_number(v) as u64);
+    octets::put_one(d, 5, which(v) as u64);
+    octets::copy(d, 6, &tag);
+}
+
+// the metadata,
+fn put_metadata(d: &mut [u8], count: u64, label: [u8; 32])
+    requires { ⌜ length (now d) ≡ 87 ⌝ }
+{
+    octets::put_four(d, 38, count);
+    octets::copy(d, 42, &label);
+}
+
+// and the numbers.
+fn put_numbers(d: &mut [u8], f: Fields)
+    requires { ⌜ length (now d) ≡ 87 ⌝ }
+{
+    octets::put_four(d, 74, f.length);
+    octets::put_four(d, 78, f.entries);
+    octets::put_four(d, 82, f.count);
+    octets::put_one(d, 86, bit(f.yes) as u64);
+}
+
+fn put_fields(d: &mut [u8], f: Fields, lent: usize)
+    requires { ⌜ length (now d) ≡ 87 ⌝ }
+{
+    let v = f.verdict;
+    let tag = f.tag;
+    let m = f.metadata;
+    let label = m.label;
+    put_front(d, v, tag, lent);
+    put_metadata(d, m.count, label);
+    put_numbers(d, f);
+}
+
+fn send(f: Fields, lent: &[u8]) {
+    let mut d = [0u8; 87];
+    put_fields(&mut d, f, lent.len());
+    io::write_all(1, &d);
+    io::write_all(1, lent);
+}
+
+// A four-byte number and 32 bytes of a request.
+fn number(r: &[u8], at: usize) -> u64
+    requires { ⌜ at + 4 ≤ length (now r) ⌝ }
+{
+    octets::four_at(r, at)
+}
+
+fn metadata(r: &[u8]) -> Metadata
+    requires { ⌜ 37 ≤ length (now r) ⌝ }
+{
+    let label = octets::bytes32(r, 5);
+    Metadata {
+        count: number(r, 1),
+        label,
+    }
+}
+
+fn operation(x: u8) -> Operation {
+    match x {
+        0 => Operation::Read,
+        1 => Operation::Replace,
+        2 => Operation::Insert,
+        _ => Operation::Delete,
+    }
+}
+
+// Operation, position, height and tag, from `at` on.
+fn command(r: &[u8], at: usize) -> Command
+    requires { ⌜ at + 38 ≤ length (now r) ⌝ }
+{
+    let tag = octets::bytes32(r, at + 6);
+    Command {
+        operation: operation(r[at]),
+        position: number(r, at + 1),
+        height: r[at + 5],
+        tag,
+    }
+}
+
+// Each call answers whether its frame was well formed.
+fn call_digest(r: &[u8]) -> bool {
+    if r.len() < 1 {
+        return false;
+    }
+    let d = sha256::digest(&r[1..]);
+    let v = d.verdict;
+    let mut f = blank(v);
+    let tag = d.bytes;
+    f.tag = tag;
+    send(f, b"");
+    true
+}
+
+fn call_match(r: &[u8]) -> bool {
+    if r.len() < 33 {
+        return false;
+    }
+    let m = labels::matches(octets::bytes32(r, 1), &r[33..]);
+    let v = m.verdict;
+    let mut f = blank(v);
+    f.yes = m.yes;
+    send(f, b"");
+    true
+}
+
+fn call_height(r: &[u8]) -> bool {
+    if r.len() < 3 {
+        return false;
+    }
+    let mut f = blank(Verdict::Done);
+    f.count = labels::height(octets::two_at(r, 1) as u16) as u64;
+    send(f, b"");
+    true
+}
+
+fn call_save(r: &[u8]) -> bool {
+    if r.len() < 37 {
+        return false;
+    }
+    let m = metadata(r);
+    let s = gateway::saved::save(m);
+    let bytes = s.bytes;
+    let v = s.verdict;
+    let mut f = blank(v);
+    f.metadata = m;
+    send(f, &bytes);
+    true
+}
+
+fn call_load(r: &[u8]) -> bool {
+    if r.len() < 1 {
+        return false;
+    }
+    let l = gateway::saved::load(&r[1..]);
+    let m = l.metadata;
+    let v = l.verdict;
+    let mut f = blank(v);
+    f.metadata = m;
+    send(f, b"");
+    true
+}
+
+fn call_check(r: &[u8]) -> bool {
+    if r.len() < 1 {
+        return false;
+    }
+    let c = store::check(&r[1..]);
+    let m = c.metadata;
+    let v = c.verdict;
+    let mut f = blank(v);
+    f.metadata = m;
+    send(f, b"");
+    true
+}
+
+// A proof in a buffer, and all of the buffer after it.
+fn prove_in(r: &[u8], buffer: &mut [u8])
+    requires { ⌜ 13 ≤ length (now r) ⌝ }
+{
+    let p = store::prove(&r[13..], number(r, 1), buffer, number(r, 5));
+    let v = p.verdict;
+    let mut f = blank(v);
+    f.length = p.length;
+    f.entries = p.entries;
+    send(f, buffer);
+}
+
+fn call_prove(r: &[u8]) -> bool {
+    if r.len() < 13 {
+        return false;
+    }
+    let size = number(r, 9) as usize;
+    if MOST_BUFFER < size {
+        return false;
+    }
+    let mut buffer = [UNTOUCHED; MOST_BUFFER];
+    prove_in(r, &mut buffer[0..size]);
+    true
+}
+
+fn call_apply(r: &mut [u8]) -> bool {
+    if r.len() < 39 {
+        return false;
+    }
+    if 3 < r[1] {
+        return false;
+    }
+    let k = command(r, 1);
+    let a = store::apply(&mut r[39..], k);
+    let v = a.verdict;
+    let mut f = blank(v);
+    f.count = a.count;
+    send(f, &r[39..]);
+    true
+}
+
+fn call_gateway(r: &[u8]) -> bool {
+    if r.len() < 79 {
+        return false;
+    }
+    if 3 < r[37] {
+        return false;
+    }
+    let first = number(r, 75) as usize;
+    if r.len() - 79 < first {
+        return false;
+    }
+    let end = 79 + first;
+    let a = gateway::check(metadata(r), command(r, 37), &r[79..end], &r[end..]);
+    let tag = a.tag;
+    let m = a.metadata;
+    let v = a.verdict;
+    let mut f = blank(v);
+    f.tag = tag;
+    f.metadata = m;
+    send(f, b"");
+    true
+}
+
+// One call; false where the frame is bad.
+fn answered(r: &mut [u8]) -> bool {
+    if r.len() < 1 {
+        return false;
+    }
+    let call = r[0];
+    match call {
+        1 => call_digest(r),
+        2 => call_match(r),
+        3 => call_height(r),
+        4 => call_save(r),
+        5 => call_load(r),
+        6 => call_check(r),
+        7 => call_prove(r),
+        8 => call_apply(r),
+        9 => call_gateway(r),
+        _ => false,
+    }
+}
+
+fn bad_frame() -> bool {
+    io::write_all(1, b"bad frame\n");
+    false
+}
+
+// Reads one frame and answers it; false where the run is over.
+fn turn(space: &mut [u8]) -> bool
+    requires { ⌜ length (now space) ≡ 200000 ⌝ }
+{
+    let mut size = [0u8; 4];
+    let got = io::read_full(0, &mut size);
+    if got == 0 {
+        return false;
+    }
+    if got < 4 {
+        return bad_frame();
+    }
+    let n = octets::four_at(&size, 0) as usize;
+    if MOST_FRAME < n {
+        return bad_frame();
+    }
+    let here = io::read_full(0, &mut space[0..n]);
+    if here < n {
+        return bad_frame();
+    }
+    if answered(&mut space[0..n]) {
+        return true;
+    }
+    bad_frame()
+}
+
+// A proved loop has to end, and nothing says that the input does: so the loop counts its turns down, from a number that no run
+// uses up.
+fn turns(space: &mut [u8])
+    requires { ⌜ length (now space) ≡ 200000 ⌝ }
+{
+    let mut left = u64::MAX;
+    while 0 < left && turn(space) {
+        left -= 1;
+    }
+}
+
+fn main() {
+    let mut space = [0u8; MOST_FRAME];
+    turns(&mut space);
+}

@@ -1,0 +1,4 @@
+pub mod SoundLaws
+pub mod RecordLaws
+pub mod ImageLaws
+pub mod EditLaws

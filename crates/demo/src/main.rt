@@ -1,0 +1,295 @@
+// A told story, all of it through the public calls: the archive of a night, a late block filed in its middle, and five stores that
+// lie. The gateway keeps only `Metadata`; image and proofs are in the store's hands.
+use commands::Command;
+use commands::Metadata;
+use commands::Operation;
+use gateway::Answer;
+use refusals::Refusal;
+use refusals::Verdict;
+
+const IMAGE: usize = 512;
+
+const PROOF: usize = 1024;
+
+fn say(text: &[u8]) {
+    io::write_all(1, text);
+}
+
+// The first four bytes, enough to tell the labels of this story apart.
+fn say_label(label: [u8; 32]) {
+    io::print_hex(1, octets::four_at(&label, 0), 8);
+    say(b"..");
+}
+
+fn say_metadata(m: Metadata) {
+    say(b"count ");
+    io::print_decimal(1, m.count);
+    say(b", label ");
+    let label = m.label;
+    say_label(label);
+}
+
+fn name(r: Refusal) {
+    match r {
+        Refusal::BadImage => say(b"BAD IMAGE"),
+        Refusal::BadPosition => say(b"BAD POSITION"),
+        Refusal::BadHeight => say(b"BAD HEIGHT"),
+        Refusal::Full => say(b"FULL"),
+        Refusal::NoRoom => say(b"NO ROOM"),
+        Refusal::TooDeep => say(b"TOO DEEP"),
+        Refusal::BadProof(_) => say(b"BAD PROOF"),
+        Refusal::WrongPosition(_) => say(b"WRONG POSITION"),
+        Refusal::WrongLabel(_) => say(b"WRONG LABEL"),
+        Refusal::NotNeighbours => say(b"NOT NEIGHBOURS"),
+        Refusal::LongMessage => say(b"LONG MESSAGE"),
+        Refusal::BadMetadata => say(b"BAD METADATA"),
+    }
+}
+
+fn say_verdict(v: Verdict) {
+    match v {
+        Verdict::Done => say(b"    accepted"),
+        Verdict::Refused(r) => {
+            say(b"    refused ");
+            io::print_decimal(1, refusals::number(r) as u64);
+            say(b" ");
+            name(r);
+        }
+    }
+}
+
+fn tag_of(block: &[u8]) -> [u8; 32] {
+    let t = labels::tag(block);
+    t.tag
+}
+
+fn command(operation: Operation, position: u64, height: u8, tag: [u8; 32]) -> Command {
+    Command {
+        operation,
+        position,
+        height,
+        tag,
+    }
+}
+
+fn read(position: u64) -> Command {
+    command(Operation::Read, position, 0, [0u8; 32])
+}
+
+// The gateway's answer to a command with the first n bytes of `proof`.
+fn judged(m: Metadata, k: Command, proof: &[u8], n: usize) -> Answer {
+    if proof.len() < n {
+        return gateway::check(m, k, b"", b"");
+    }
+    gateway::check(m, k, &proof[0..n], b"")
+}
+
+// The store proves position `shown`, into the front of `proof`; the length of what it wrote.
+fn proved(image: &[u8], shown: u64, proof: &mut [u8]) -> usize {
+    let p = store::prove(image, shown, proof, 0);
+    p.length as usize
+}
+
+// The gateway's answer to a command with the store's proof of position `shown`.
+fn asked(m: Metadata, k: Command, image: &[u8], shown: u64) -> Answer {
+    let mut proof = [0u8; PROOF];
+    let n = proved(image, shown, &mut proof);
+    judged(m, k, &proof, n)
+}
+
+// An archive of no block, at the start of a buffer.
+fn empty_archive() -> [u8; 512] {
+    let mut image = [0u8; IMAGE];
+    image[0] = 1;
+    image[4] = 2;
+    image
+}
+
+fn held(image: &[u8]) -> Metadata {
+    let c = store::check(image);
+    c.metadata
+}
+
+// One honest filing: the store proves the place, the gateway checks and predicts, the store applies. What the gateway then holds.
+fn filed(m: Metadata, image: &mut [u8], name: &[u8], p: u64, height: u8, block: &[u8]) -> Metadata {
+    let k = command(Operation::Insert, p, height, tag_of(block));
+    let a = asked(m, k, image, p);
+    let v = a.verdict;
+    if !refusals::is_done(v) {
+        say_verdict(v);
+        say(b"\n");
+        return m;
+    }
+    store::apply(image, k);
+    let next = a.metadata;
+    say(b"  ");
+    say(name);
+    say(b" filed after position ");
+    io::print_decimal(1, p);
+    say(b": ");
+    say_metadata(next);
+    say(b"\n");
+    next
+}
+
+// The night so far: the radio was out at 02:00.
+fn night(image: &mut [u8]) -> Metadata {
+    say(b"The store keeps the blocks, the gateway a count and one root label.\n");
+    let mut m = held(image);
+    say(b"  an empty archive: ");
+    say_metadata(m);
+    say(b"\n");
+    m = filed(m, image, b"00:00", 0, 0, b"00:00 level 4.12 m");
+    m = filed(m, image, b"01:00", 1, 2, b"01:00 level 4.15 m");
+    m = filed(m, image, b"03:00", 2, 0, b"03:00 level 4.31 m");
+    filed(m, image, b"04:00", 3, 1, b"04:00 level 4.42 m")
+}
+
+// The same label, byte by byte?
+fn agrees(a: Metadata, b: Metadata) -> bool {
+    let x = a.label;
+    let y = b.label;
+    a.count == b.count && octets::same32(x, y)
+}
+
+fn say_proof(image: &[u8], p: u64) {
+    let mut proof = [0u8; PROOF];
+    let x = store::prove(image, p, &mut proof, 0);
+    say(b"  the store proves position ");
+    io::print_decimal(1, p);
+    say(b": ");
+    io::print_decimal(1, x.entries);
+    say(b" entries, ");
+    io::print_decimal(1, x.length);
+    say(b" bytes\n");
+}
+
+// The late block, filed in the middle.
+fn late(m: Metadata, image: &mut [u8]) -> Metadata {
+    say(
+        b"\nThe radio was out at 02:00. At 05:00 the outstation dials in with that block; it belongs after position 2.\n",
+    );
+    say_proof(image, 2);
+    let next = filed(m, image, b"02:00", 2, 1, b"02:00 level 4.22 m");
+    let seen = held(image);
+    say(b"  the store's image, checked afresh: ");
+    say_metadata(seen);
+    if agrees(next, seen) {
+        say(b", as the gateway predicted\n");
+    } else {
+        say(b", NOT as the gateway predicted\n");
+    }
+    next
+}
+
+// One lie: what the store does, and what the gateway says.
+fn lie(what: &[u8], a: Answer, why: &[u8]) {
+    let v = a.verdict;
+    say(what);
+    say_verdict(v);
+    say(b": ");
+    say(why);
+    say(b"\n");
+}
+
+// It files the late block at the end, under its time of arrival.
+fn files_at_the_end(m: Metadata, before: [u8; 512]) {
+    let mut image = before;
+    let k = command(Operation::Insert, 4, 1, tag_of(b"02:00 level 4.22 m"));
+    store::apply(&mut image, k);
+    let a = asked(m, read(3), &image, 3);
+    lie(
+        b"  It files the late block at the end. The gateway reads position 3:\n",
+        a,
+        b"that archive is not the one whose label the gateway holds.",
+    );
+}
+
+fn answers_for_another(m: Metadata, image: &[u8]) {
+    let a = asked(m, read(3), image, 2);
+    lie(
+        b"  Asked for position 3, it proves position 2:\n",
+        a,
+        b"a good proof, of another place.",
+    );
+}
+
+fn hands_back_an_old_proof(m: Metadata, before: &[u8]) {
+    let a = asked(m, read(3), before, 3);
+    lie(
+        b"  It hands back the proof of position 3 from before the late block:\n",
+        a,
+        b"it counts four blocks, and the gateway five.",
+    );
+}
+
+// One bit of the byte at a place turned round.
+fn flip(proof: &mut [u8], at: usize) {
+    if at < proof.len() {
+        proof[at] = proof[at] ^ 1;
+    }
+}
+
+fn flips_a_bit(m: Metadata, image: &[u8]) {
+    let mut proof = [0u8; PROOF];
+    let n = proved(image, 3, &mut proof);
+    if n < 77 {
+        return;
+    }
+    flip(&mut proof, n - 60);
+    let a = judged(m, read(3), &proof, n);
+    lie(
+        b"  It flips one bit of the tag in its proof of position 3:\n",
+        a,
+        b"the label worked out from the proof is not the one held.",
+    );
+}
+
+// Delete 2, with the first j bytes of one proof and the first k of another: what the gateway holds afterwards.
+fn deleted(m: Metadata, first: &[u8], j: usize, second: &[u8], k: usize) -> Metadata {
+    if first.len() < j {
+        return m;
+    }
+    if second.len() < k {
+        return m;
+    }
+    let c = command(Operation::Delete, 2, 0, [0u8; 32]);
+    let a = gateway::check(m, c, &first[0..j], &second[0..k]);
+    a.metadata
+}
+
+fn deletion(m: Metadata, image: &[u8]) -> Metadata {
+    let mut first = [0u8; PROOF];
+    let mut second = [0u8; PROOF];
+    let j = proved(image, 1, &mut first);
+    let k = proved(image, 2, &mut second);
+    deleted(m, &first, j, &second, k)
+}
+
+fn deletes_the_wrong_block(m: Metadata, honest: [u8; 512]) {
+    let next = deletion(m, &honest);
+    let mut image = honest;
+    store::apply(&mut image, command(Operation::Delete, 3, 0, [0u8; 32]));
+    let a = asked(next, read(2), &image, 2);
+    lie(
+        b"  Told to delete the block at position 2, it deletes the one at position 3. The gateway reads position 2:\n",
+        a,
+        b"the gateway worked out the label after the deletion by itself.",
+    );
+}
+
+fn main() {
+    let mut image = empty_archive();
+    let before_late = night(&mut image);
+    let before = image;
+    let m = late(before_late, &mut image);
+    say(b"\nStores that lie:\n");
+    files_at_the_end(m, before);
+    answers_for_another(m, &image);
+    hands_back_an_old_proof(m, &before);
+    flips_a_bit(m, &image);
+    deletes_the_wrong_block(m, image);
+    say(b"\nEach was refused, and the gateway still holds ");
+    say_metadata(m);
+    say(b"\n");
+}

@@ -1,0 +1,14 @@
+pub mod SavedLaws
+pub mod Climbs
+pub mod Runs
+pub mod Merges
+pub mod Seats
+pub mod Exact
+pub mod Screens
+pub mod Tests
+pub mod Meets
+pub mod Answers
+pub mod Pledge
+pub mod Accepts
+pub mod Demands
+pub mod Honest

@@ -1,0 +1,4 @@
+mod CountLaws
+mod PassLaws
+mod RowPass
+pub mod ShapeLaws

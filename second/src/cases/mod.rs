@@ -1,0 +1,95 @@
+//! The calls that are compared, family by family, from a seed.
+
+pub mod archive;
+pub mod edges;
+pub mod forged;
+pub mod images;
+pub mod known;
+pub mod order;
+pub mod pairs;
+pub mod proofs;
+pub mod raw;
+pub mod rows;
+pub mod streams;
+
+use crate::frames::{Answer, Request};
+
+/// What to deal: the seed, how many random calls, the longest row of those that
+/// are gone through one by one, and whether the first difference is enough.
+#[derive(Clone, Copy, Debug)]
+pub struct Plan {
+    pub seed: u64,
+    pub cases: u32,
+    pub rows: u32,
+    pub first: bool,
+}
+
+/// One call. Some have an answer that a document states.
+pub struct Case {
+    pub family: &'static str,
+    pub request: Request,
+    pub stated: Option<Answer>,
+}
+
+/// Where the families put their calls. What takes them says whether to go on.
+pub struct Deck<'a> {
+    put: &'a mut dyn FnMut(Case) -> bool,
+    open: bool,
+}
+
+impl<'a> Deck<'a> {
+    pub fn new(put: &'a mut dyn FnMut(Case) -> bool) -> Deck<'a> {
+        Deck { put, open: true }
+    }
+
+    fn put_case(&mut self, case: Case) {
+        if self.open {
+            self.open = (self.put)(case);
+        }
+    }
+
+    pub fn put(&mut self, family: &'static str, request: Request) {
+        self.put_case(Case {
+            family,
+            request,
+            stated: None,
+        });
+    }
+
+    pub fn put_stated(&mut self, family: &'static str, request: Request, stated: Answer) {
+        self.put_case(Case {
+            family,
+            request,
+            stated: Some(stated),
+        });
+    }
+}
+
+/// The families. Down to the short rows they are the same for every seed and
+/// hold all that the coverage table asks for; then they are random.
+const FAMILIES: [fn(&Plan, &mut Deck); 15] = [
+    |_, deck| known::deal(deck),
+    |_, deck| order::deal(deck),
+    |_, deck| images::every_header_byte(deck),
+    |_, deck| proofs::every_rule(deck),
+    |_, deck| forged::fixed(deck),
+    |_, deck| pairs::every_kind(deck),
+    |_, deck| edges::deal(deck),
+    |_, deck| proofs::every_bit(deck),
+    |_, deck| known::coin_words(deck),
+    |plan, deck| rows::every_short_row(plan.rows, deck),
+    |plan, deck| rows::random(plan.seed, plan.cases / 4, deck),
+    |plan, deck| images::random(plan.seed, plan.cases / 8, deck),
+    |plan, deck| proofs::random(plan.seed, plan.cases / 4, deck),
+    |plan, deck| forged::random(plan.seed, plan.cases / 4, deck),
+    |plan, deck| pairs::random(plan.seed, plan.cases / 8, deck),
+];
+
+/// Deals every call of the plan.
+pub fn deal(plan: &Plan, deck: &mut Deck) {
+    for family in FAMILIES {
+        if deck.open {
+            family(plan, deck);
+        }
+    }
+}

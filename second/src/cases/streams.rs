@@ -1,0 +1,117 @@
+//! Whole inputs that end in a bad frame, or that end well at an edge.
+
+use super::archive::{command, five};
+use crate::command::Operation;
+use crate::frames::{framed, Request};
+
+/// An input and what it shows.
+pub struct Stream {
+    pub name: String,
+    pub input: Vec<u8>,
+}
+
+/// Two good calls, so that there is something to answer before the end.
+fn good() -> Vec<u8> {
+    let digest = Request::Digest {
+        message: b"abc".to_vec(),
+    };
+    let read = five().gateway(command(Operation::Read, 3, 0, [0; 32]));
+    [digest.frame(), read.frame()].concat()
+}
+
+/// A frame with its call byte and this many bytes of fields.
+fn with_fields(call: u8, fields: usize) -> Vec<u8> {
+    let mut rest = vec![call];
+    rest.resize(1 + fields, 0);
+    framed(&rest)
+}
+
+/// Every call with its fields one byte short, and with the fewest there are.
+fn fewest_fields() -> [(u8, usize); 9] {
+    [
+        (1, 0),
+        (2, 32),
+        (3, 2),
+        (4, 36),
+        (5, 0),
+        (6, 0),
+        (7, 12),
+        (8, 38),
+        (9, 78),
+    ]
+}
+
+/// What may stand at the end of an input.
+fn ends() -> Vec<(String, Vec<u8>)> {
+    let mut all: Vec<(String, Vec<u8>)> = Vec::new();
+    let mut add = |name: &str, end: Vec<u8>| all.push((name.to_string(), end));
+    add("nothing more", Vec::new());
+    add("one byte of a length", vec![0]);
+    add("three bytes of a length", vec![0, 0, 1]);
+    add("a length and nothing", vec![0, 0, 0, 9]);
+    add("a frame without a call", vec![0, 0, 0, 0]);
+    add("call 0", with_fields(0, 100));
+    add("call 200", with_fields(200, 100));
+    add("call 255", with_fields(255, 100));
+    add("the longest length", vec![255; 400]);
+    add("a frame far too long", with_fields(6, 300_000));
+    add("a long frame", with_fields(6, 199_000));
+    for (call, fields) in fewest_fields() {
+        add(&format!("call {call}, fewest"), with_fields(call, fields));
+        if fields > 0 {
+            let short = with_fields(call, fields - 1);
+            add(&format!("call {call}, short"), short);
+        }
+    }
+    all.extend(bad_fields());
+    all
+}
+
+/// Fields that make a frame malformed, each a step from one that does not.
+fn bad_fields() -> Vec<(String, Vec<u8>)> {
+    let mut all: Vec<(String, Vec<u8>)> = Vec::new();
+    let set = |call: u8, fields: usize, at: usize, values: &[u8]| {
+        let mut frame = with_fields(call, fields);
+        frame[5 + at..5 + at + values.len()].copy_from_slice(values);
+        frame
+    };
+    for (call, at) in [(8, 0), (9, 36)] {
+        for operation in [3, 4, 255] {
+            let name = format!("call {call}, operation {operation}");
+            all.push((name, set(call, 90, at, &[operation])));
+        }
+    }
+    for length in [16_384u32, 16_385, 1 << 31, u32::MAX] {
+        let name = format!("a proof buffer of {length}");
+        all.push((name, set(7, 30, 8, &length.to_be_bytes())));
+    }
+    for length in [11u32, 12, 13, 1 << 31, u32::MAX] {
+        let name = format!("a first proof of {length} in 12 bytes");
+        all.push((name, set(9, 90, 74, &length.to_be_bytes())));
+    }
+    all
+}
+
+/// Each end after nothing and after good calls, with a good call behind it.
+pub fn streams() -> Vec<Stream> {
+    let mut all = Vec::new();
+    for (name, end) in ends() {
+        let alone = format!("{name}, alone");
+        all.push(Stream {
+            name: alone,
+            input: end.clone(),
+        });
+        all.push(Stream {
+            name: format!("{name}, after good calls"),
+            input: [good(), end.clone()].concat(),
+        });
+    }
+    let whole = good();
+    for cut in [5, whole.len() - 1, whole.len() - 40] {
+        all.push(Stream {
+            name: format!("cut after {cut} bytes"),
+            input: whole[..cut].to_vec(),
+        });
+    }
+    all
+}

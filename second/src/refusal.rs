@@ -1,0 +1,54 @@
+//! Document 01, "What comes back when it will not".
+
+#[derive(Clone, Copy, Debug, PartialEq, Eq)]
+pub enum Which {
+    First,
+    Second,
+}
+
+#[derive(Clone, Copy, Debug, PartialEq, Eq)]
+pub enum Refusal {
+    BadImage,
+    BadPosition,
+    BadHeight,
+    Full,
+    NoRoom,
+    TooDeep,
+    BadProof(Which),
+    WrongPosition(Which),
+    WrongLabel(Which),
+    NotNeighbours,
+    LongMessage,
+    BadMetadata,
+}
+
+impl Refusal {
+    /// The number in document 01's table.
+    pub fn number(self) -> u8 {
+        match self {
+            Refusal::BadImage => 1,
+            Refusal::BadPosition => 2,
+            Refusal::BadHeight => 3,
+            Refusal::Full => 4,
+            Refusal::NoRoom => 5,
+            Refusal::TooDeep => 6,
+            Refusal::BadProof(_) => 7,
+            Refusal::WrongPosition(_) => 8,
+            Refusal::WrongLabel(_) => 9,
+            Refusal::NotNeighbours => 10,
+            Refusal::LongMessage => 11,
+            Refusal::BadMetadata => 12,
+        }
+    }
+
+    /// 7, 8 and 9 also say which proof: 1 the first, 2 the second, else 0.
+    pub fn which(self) -> u8 {
+        match self {
+            Refusal::BadProof(w) | Refusal::WrongPosition(w) | Refusal::WrongLabel(w) => match w {
+                Which::First => 1,
+                Which::Second => 2,
+            },
+            _ => 0,
+        }
+    }
+}

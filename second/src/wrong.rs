@@ -1,0 +1,231 @@
+//! Wrong programs on purpose, so that tests can see the comparer find them.
+//! Nothing here is in force unless `answers --wrong NAME` names it.
+
+use std::sync::atomic::{AtomicBool, Ordering};
+use std::sync::OnceLock;
+
+use crate::command::{Command, Operation};
+use crate::frames::{Answer, Request};
+use crate::image;
+use crate::metadata::{Metadata, MOST_BLOCKS};
+use crate::refusal::Refusal;
+
+#[derive(Clone, Copy, Debug, PartialEq, Eq)]
+pub enum Wrong {
+    /// The last tallest column is taken where heights tie.
+    LastTallest,
+    /// The empty side is hashed as 32 zero bytes.
+    EmptyZeros,
+    /// The head's missing tag is hashed as 32 zero bytes.
+    HeadZeros,
+    /// A position past the end is taken as the end.
+    ClampedPosition,
+    /// Insert keeps a down entry of level h.
+    InsertKeepsDown,
+    /// Insert does not keep a right entry of level h.
+    InsertLeavesRight,
+    /// Delete puts a down entry first at equal level.
+    DownFirst,
+    /// Delete zeroes the 33 bytes after the ones given up.
+    DeleteZeroesNext,
+    /// Delete's side ranks are not compared.
+    SideRanksUnseen,
+    /// Delete takes any entries below the parting.
+    AnythingBelow,
+    /// 8 does not look at the stop's own.
+    OwnUnseen,
+    /// 9 does not look at the proved rank.
+    CountUnseen,
+    /// Rank fields are bounded by 65,535.
+    WideRanks,
+    /// The second proof is reported as the first.
+    SecondAsFirst,
+    /// A refusal gives no metadata back.
+    MetadataLost,
+    /// 4 comes before 3.
+    FullFirst,
+    /// 5 comes before 6.
+    RoomFirst,
+    /// The coin word 0 is drawn as 16.
+    CoinSixteen,
+    /// An image with spare bytes is refused.
+    SpareRefused,
+    /// The gateway checks the first command of a run and nods at the rest.
+    Nods,
+    /// The gateway refuses all.
+    RefusesAll,
+}
+
+pub const WRONGS: [(&str, Wrong); 21] = [
+    ("last-tallest", Wrong::LastTallest),
+    ("empty-zeros", Wrong::EmptyZeros),
+    ("head-zeros", Wrong::HeadZeros),
+    ("clamped-position", Wrong::ClampedPosition),
+    ("insert-keeps-down", Wrong::InsertKeepsDown),
+    ("insert-leaves-right", Wrong::InsertLeavesRight),
+    ("down-first", Wrong::DownFirst),
+    ("delete-zeroes-next", Wrong::DeleteZeroesNext),
+    ("side-ranks-unseen", Wrong::SideRanksUnseen),
+    ("anything-below", Wrong::AnythingBelow),
+    ("own-unseen", Wrong::OwnUnseen),
+    ("count-unseen", Wrong::CountUnseen),
+    ("wide-ranks", Wrong::WideRanks),
+    ("second-as-first", Wrong::SecondAsFirst),
+    ("metadata-lost", Wrong::MetadataLost),
+    ("full-first", Wrong::FullFirst),
+    ("room-first", Wrong::RoomFirst),
+    ("coin-sixteen", Wrong::CoinSixteen),
+    ("spare-refused", Wrong::SpareRefused),
+    ("nods", Wrong::Nods),
+    ("refuses-all", Wrong::RefusesAll),
+];
+
+static CHOSEN: OnceLock<Wrong> = OnceLock::new();
+static NODDING: AtomicBool = AtomicBool::new(false);
+
+/// Puts a wrong in force for the rest of the process; false if none has the name.
+pub fn choose(name: &str) -> bool {
+    match WRONGS.iter().find(|(known, _)| *known == name) {
+        Some((_, wrong)) => CHOSEN.set(*wrong).is_ok(),
+        None => false,
+    }
+}
+
+/// Whether this wrong is in force.
+pub fn wrong(which: Wrong) -> bool {
+    CHOSEN.get() == Some(&which)
+}
+
+/// The call as a wrong program takes it.
+pub fn request(request: Request) -> Request {
+    if !wrong(Wrong::ClampedPosition) {
+        return request;
+    }
+    match request {
+        Request::Prove {
+            p,
+            place,
+            length,
+            image,
+        } => Request::Prove {
+            p: p.min(blocks_in(&image)),
+            place,
+            length,
+            image,
+        },
+        Request::Apply { command, image } => Request::Apply {
+            command: clamped(command, blocks_in(&image)),
+            image,
+        },
+        Request::Gateway {
+            held,
+            command,
+            first,
+            second,
+        } => Request::Gateway {
+            held,
+            command: clamped(command, held.count),
+            first,
+            second,
+        },
+        other => other,
+    }
+}
+
+fn blocks_in(buffer: &[u8]) -> u32 {
+    image::read(buffer).map_or(0, |blocks| blocks.len() as u32)
+}
+
+fn clamped(command: Command, n: u32) -> Command {
+    let p = command.p.min(n);
+    Command { p, ..command }
+}
+
+/// The answer as a wrong program gives it.
+pub fn answer(request: &Request, answer: Answer) -> Answer {
+    match CHOSEN.get() {
+        Some(Wrong::SecondAsFirst) => Answer {
+            which: answer.which.min(1),
+            ..answer
+        },
+        Some(Wrong::MetadataLost) if answer.refusal != 0 => Answer {
+            metadata: Metadata::default(),
+            ..answer
+        },
+        Some(Wrong::CoinSixteen) if *request == (Request::Height { word: 0 }) => Answer {
+            count: 16,
+            ..answer
+        },
+        Some(Wrong::FullFirst) => full_first(request, answer),
+        Some(Wrong::RoomFirst) => room_first(request, answer),
+        Some(Wrong::SpareRefused) => spare_refused(request, answer),
+        Some(Wrong::Nods) => nods(request, answer),
+        Some(Wrong::RefusesAll) => refuses_all(request, answer),
+        _ => answer,
+    }
+}
+
+fn full_first(request: &Request, answer: Answer) -> Answer {
+    match request {
+        Request::Gateway { held, command, .. }
+            if command.operation == Operation::Insert
+                && answer.refusal == Refusal::BadHeight.number()
+                && held.count == MOST_BLOCKS =>
+        {
+            let refusal = Refusal::Full.number();
+            Answer { refusal, ..answer }
+        }
+        _ => answer,
+    }
+}
+
+fn room_first(request: &Request, answer: Answer) -> Answer {
+    match request {
+        Request::Prove { length, .. }
+            if answer.refusal == Refusal::TooDeep.number() && *length < 7715 =>
+        {
+            let refusal = Refusal::NoRoom.number();
+            Answer { refusal, ..answer }
+        }
+        _ => answer,
+    }
+}
+
+fn spare_refused(request: &Request, answer: Answer) -> Answer {
+    match request {
+        Request::Check { image } => {
+            let n = answer.metadata.count as usize;
+            match answer.refusal == 0 && image.len() > image::length(n) {
+                true => Answer {
+                    refusal: Refusal::BadImage.number(),
+                    ..Answer::default()
+                },
+                false => answer,
+            }
+        }
+        _ => answer,
+    }
+}
+
+fn nods(request: &Request, answer: Answer) -> Answer {
+    match request {
+        Request::Gateway { .. } if NODDING.swap(true, Ordering::Relaxed) => Answer {
+            refusal: 0,
+            which: 0,
+            ..answer
+        },
+        _ => answer,
+    }
+}
+
+fn refuses_all(request: &Request, answer: Answer) -> Answer {
+    match request {
+        Request::Gateway { held, .. } if answer.refusal == 0 => Answer {
+            refusal: 9,
+            which: 1,
+            metadata: *held,
+            ..Answer::default()
+        },
+        _ => answer,
+    }
+}
