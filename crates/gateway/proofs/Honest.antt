@@ -157,20 +157,20 @@ predicted-same Replace p h t m z w v e = refl
 predicted-same Insert p h t m z w v e = refl
 predicted-same Delete p h t m z w v e = ap (deleted 𝓢 side-discrete z) (e refl)
 
-first-in-row : (o : Operation) (p h : ℕ) (t : List ℕ) (n : ℕ) → InRange (orderOf o p h t) n
+pub first-in-row : (o : Operation) (p h : ℕ) (t : List ℕ) (n : ℕ) → InRange (orderOf o p h t) n
     → firstAt (orderOf o p h t) ≤ n
 first-in-row Read p h t n r = r .1
 first-in-row Replace p h t n r = r .1
 first-in-row Insert p h t n r = r .0
 first-in-row Delete p h t n r = omega (arith, r .1)
 
-spot-is : (o : Operation) (p h : ℕ) (t : List ℕ) → spot (orderOf o p h t) ≡ p
+pub spot-is : (o : Operation) (p h : ℕ) (t : List ℕ) → spot (orderOf o p h t) ≡ p
 spot-is Read p h t = refl
 spot-is Replace p h t = refl
 spot-is Insert p h t = refl
 spot-is Delete p h t = refl
 
-spot-in-row : (o : Operation) (p h : ℕ) (t : List ℕ) (n : ℕ) → InRange (orderOf o p h t) n → p ≤ n
+pub spot-in-row : (o : Operation) (p h : ℕ) (t : List ℕ) (n : ℕ) → InRange (orderOf o p h t) n → p ≤ n
 spot-in-row Read p h t n r = r .1
 spot-in-row Replace p h t n r = r .1
 spot-in-row Insert p h t n r = r .0

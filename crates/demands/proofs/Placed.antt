@@ -1,0 +1,68 @@
+-- A refusal comes exactly where document 01 puts it: every call's verdict is that of its list of rules.
+-- Assumes nothing.
+use Prim.Native.Nat.{ℕ, _≤_, _<_}
+use mathlib.Core.Path.{_≡_, refl, ap, sym, _∙_}
+use mathlib.Core.Logic.{_⊎_, inl, inr}
+use mathlib.Core.List.{List}
+use lib.ListN.{length}
+use borrow.Author.Tests.{lt-ltb, le-ltb}
+use Rattle.refusals.specs.Order.{verdictOf}
+use Rattle.sha256.specs.declared.Digested.{Digested}
+use Rattle.sha256.proofs.Answers.{digest-done, digest-refused}
+use Rattle.skiplist.proofs.Cases.{order}
+use Rattle.sha256.specs.Answer.{longest, digestOf}
+use Rattle.labels.specs.Tags.{tagRules, tagOf, matchOf}
+use Rattle.commands.specs.declared.Metadata.{Metadata}
+use Rattle.commands.specs.declared.Operation.{Operation}
+use Rattle.commands.specs.declared.Operation.the-variants.{Read, Replace, Insert, Delete}
+use Rattle.commands.specs.declared.Command.{Command}
+use Rattle.store.specs.Answers.{checkVerdict, checkOf, proveRules, proveVerdict, proveOf}
+use Rattle.store.specs.Answers.{applyRules, applyVerdict, applyOf}
+use Rattle.gateway.specs.Saving.{saveRules, saveOf, loadRules, loadOf}
+use Rattle.gateway.specs.Gateway.{secondRules, gatewayRules, gatewayOf}
+use Rattle.shapes.specs.Shape.{shapeRules, shapeOf}
+use Rattle.demands.specs.Words.{numbers, proofs, secondNumbers, gatewayNumbers, secondProofs}
+use Rattle.demands.specs.Placed.{digestRules, checkRules, Placed}
+use Rattle.demands.proofs.Laws.{placed}
+
+-- a message is long where it is not of at most 4,096 bytes
+pub digest-rules : (m : List ℕ) → digestOf m .verdict ≡ verdictOf (digestRules m)
+digest-rules m = go (order longest (length m))
+  where
+    go : (longest < length m) ⊎ (length m ≤ longest) → digestOf m .verdict ≡ verdictOf (digestRules m)
+    go (inl h) = ap (λ (x : Digested). x .verdict) (digest-refused m h) ∙ sym (rw (lt-ltb longest (length m) h))
+    go (inr h) = ap (λ (x : Digested). x .verdict) (digest-done m h) ∙ sym (rw (le-ltb longest (length m) h))
+
+second-numbers : (o : Operation) (m : Metadata) (p : ℕ) (first second : List ℕ)
+    → numbers (secondRules o m p first second) ≡ secondNumbers o
+second-numbers Read m p first second = refl
+second-numbers Replace m p first second = refl
+second-numbers Insert m p first second = refl
+second-numbers Delete m p first second = refl
+
+second-proofs : (o : Operation) (m : Metadata) (p : ℕ) (first second : List ℕ)
+    → proofs (secondRules o m p first second) ≡ secondProofs o
+second-proofs Read m p first second = refl
+second-proofs Replace m p first second = refl
+second-proofs Insert m p first second = refl
+second-proofs Delete m p first second = refl
+
+pub gateway-numbers : (m : Metadata) (k : Command) (first second : List ℕ)
+    → numbers (gatewayRules m k first second) ≡ gatewayNumbers (k .operation)
+gateway-numbers m k first second = rw (second-numbers (k .operation) m (k .position) first second)
+
+pub all-placed : Placed
+unfolding tagOf matchOf saveOf loadOf checkVerdict checkOf proveVerdict proveOf applyVerdict applyOf shapeOf gatewayOf
+all-placed = record {
+  digest = λ m. placed _ (digestRules m) _ (digest-rules m) refl;
+  tag = λ block. placed _ (tagRules block) _ refl refl;
+  match = λ tag block. placed _ (tagRules block) _ refl refl;
+  save = λ m. placed _ (saveRules m) _ refl refl;
+  load = λ s. placed _ (loadRules s) _ refl refl;
+  check = λ b. placed _ (checkRules b) _ refl refl;
+  prove = λ b p room at. placed _ (proveRules b p room at) _ refl refl;
+  apply = λ b k. placed _ (applyRules b k) _ refl refl;
+  shape = λ b room. placed _ (shapeRules b room) _ refl refl;
+  gateway = λ m k first second. placed _ (gatewayRules m k first second) _ refl (gateway-numbers m k first second);
+  which = λ m k first second. rw (second-proofs (k .operation) m (k .position) first second);
+}

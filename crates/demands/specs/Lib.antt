@@ -1,0 +1,7 @@
+pub mod Words
+pub mod FirstDemand
+pub mod Placed
+pub mod SecondDemand
+pub mod ThirdDemand
+pub mod RowOfFive
+pub mod Uniqueness

@@ -1,0 +1,66 @@
+-- The words that the demands are said in: a verdict's number among some, what a refusal leaves, a refusal exactly where
+-- its rule puts it, and a pledge that settles its outcome.
+-- Assumes nothing.
+use Prim.Native.Nat.{ℕ}
+use mathlib.Core.Path.{_≡_}
+use mathlib.Core.Logic.{_⊎_}
+use mathlib.Core.List.{List, [], _∷_, map}
+use Rattle.refusals.specs.declared.Refusal.{Refusal}
+use Rattle.refusals.specs.declared.Verdict.{Verdict}
+use Rattle.refusals.specs.declared.Verdict.the-variants.{Done, Refused}
+use Rattle.refusals.specs.Numbers.{numberOf, verdictNumber, proofOf}
+use Rattle.refusals.specs.Order.{Rule, FirstDue, NoneDue}
+use Rattle.commands.specs.declared.Operation.{Operation}
+use Rattle.commands.specs.declared.Operation.the-variants.{Read, Replace, Insert, Delete}
+
+-- n is one of the numbers
+abbrev pub Among : ℕ → List ℕ → Type 0
+Among n [] = ⊥
+Among n (m ∷ ms) = (n ≡ m) ⊎ Among n ms
+
+-- the numbers of document 01's table that rules give, in their order
+abbrev pub numbers : List Rule → List ℕ
+numbers rs = map (λ r. numberOf (r .refusal)) rs
+
+-- and the proofs that they speak of
+abbrev pub proofs : List Rule → List ℕ
+proofs rs = map (λ r. proofOf (r .refusal)) rs
+
+-- "Gateway: 12, 2, 3, 4, then 7, 8, 9 on the first proof, the same on the second, then 10": the second proof is
+-- Delete's
+abbrev pub secondNumbers : Operation → List ℕ
+secondNumbers Read = []
+secondNumbers Replace = []
+secondNumbers Insert = []
+secondNumbers Delete = 7 ∷ 8 ∷ 9 ∷ 10 ∷ []
+
+abbrev pub gatewayNumbers : Operation → List ℕ
+gatewayNumbers o = 12 ∷ 2 ∷ 3 ∷ 4 ∷ 7 ∷ 8 ∷ 9 ∷ secondNumbers o
+
+-- "7, 8 and 9 also say which proof, first or second": the proof that each of them speaks of, 0 for none
+abbrev pub secondProofs : Operation → List ℕ
+secondProofs Read = []
+secondProofs Replace = []
+secondProofs Insert = []
+secondProofs Delete = 2 ∷ 2 ∷ 2 ∷ 0 ∷ []
+
+abbrev pub gatewayProofs : Operation → List ℕ
+gatewayProofs o = 0 ∷ 0 ∷ 0 ∷ 0 ∷ 1 ∷ 1 ∷ 1 ∷ secondProofs o
+
+-- nothing is refused (0) or one of the numbers is given; and where it is, Back holds
+pub record Refuses (v : Verdict) (ns : List ℕ) (Back : Type 0) : Type 0 where
+  pub number : Among (verdictNumber v) (0 ∷ ns)
+  pub back : (r : Refusal) → v ≡ Refused r → Back
+
+-- the rules give these numbers in this order; a refusal is given exactly where its rule is the first that is due; and
+-- the call is done exactly where none is
+pub record Exactly (v : Verdict) (rs : List Rule) (ns : List ℕ) : Type 0 where
+  pub order : numbers rs ≡ ns
+  pub only-where : (r : Refusal) → v ≡ Refused r → FirstDue r rs
+  pub where-due : (r : Refusal) → FirstDue r rs → v ≡ Refused r
+  pub done-only : v ≡ Done → NoneDue rs
+  pub done-where : NoneDue rs → v ≡ Done
+
+-- two outcomes that satisfy the pledge are equal
+abbrev pub Unique : {R : Type 0} → (R → Type 0) → Type 0
+Unique {R} Pledge = (r s : R) → Pledge r → Pledge s → r ≡ s
