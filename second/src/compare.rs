@@ -136,7 +136,7 @@ impl Comparison<'_> {
             self.number += 1;
             self.coverage.note(case.family, &case.request, own);
             let given = take_answer(&mut rest);
-            let stated = !case.stated.as_ref().is_some_and(|stated| stated != own);
+            let stated = case.stated.as_ref().map_or(true, |stated| stated == own);
             match given == Some(&own.frame()[..]) && stated {
                 true => self.passed += 1,
                 false => self.differs(case, own, given, stated),
@@ -271,8 +271,9 @@ fn described(request: &Request) -> String {
 
 /// Both answers, field by field.
 fn print_both(own: &Answer, given: Option<&[u8]>) {
-    let Some(given) = given.and_then(|frame| Answer::read(&frame[4..])) else {
-        return println!("  the other program gave no whole answer");
+    let given = match given.and_then(|frame| Answer::read(&frame[4..])) {
+        Some(answer) => answer,
+        None => return println!("  the other program gave no whole answer"),
     };
     println!("  field     this program | the other");
     for ((name, one), (_, two)) in fields(own).iter().zip(&fields(&given)) {

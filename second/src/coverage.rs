@@ -96,7 +96,9 @@ impl Coverage {
     pub fn unexpected(&self) -> Vec<String> {
         let can = |name: &str, outcome: &str| {
             let row = REQUIRED.iter().find(|(known, _)| *known == name);
-            row.is_some_and(|(_, outcomes)| outcomes.split(", ").any(|o| o == outcome))
+            row.map_or(false, |(_, outcomes)| {
+                outcomes.split(", ").any(|o| o == outcome)
+            })
         };
         let all = self.outcomes.keys();
         all.filter(|(name, outcome)| !can(name, outcome))

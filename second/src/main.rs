@@ -94,8 +94,9 @@ fn read_plan(arguments: &[String]) -> Option<(Plan, &[String])> {
 }
 
 fn run_compare(arguments: &[String]) -> ExitCode {
-    let Some((plan, program)) = read_plan(arguments) else {
-        return usage("`compare` takes options, then -- and a command");
+    let (plan, program) = match read_plan(arguments) {
+        Some(read) => read,
+        None => return usage("`compare` takes options, then -- and a command"),
     };
     match compare::compare(&plan, program) {
         Ok(outcome) => {

@@ -1,8 +1,7 @@
 //! Wrong programs on purpose, so that tests can see the comparer find them.
 //! Nothing here is in force unless `answers --wrong NAME` names it.
 
-use std::sync::atomic::{AtomicBool, Ordering};
-use std::sync::OnceLock;
+use std::sync::atomic::{AtomicBool, AtomicUsize, Ordering};
 
 use crate::command::{Command, Operation};
 use crate::frames::{Answer, Request};
@@ -80,20 +79,25 @@ pub const WRONGS: [(&str, Wrong); 21] = [
     ("refuses-all", Wrong::RefusesAll),
 ];
 
-static CHOSEN: OnceLock<Wrong> = OnceLock::new();
+/// The place in `WRONGS` of the wrong in force, from 1 on; 0 for none.
+static CHOSEN: AtomicUsize = AtomicUsize::new(0);
 static NODDING: AtomicBool = AtomicBool::new(false);
 
 /// Puts a wrong in force for the rest of the process; false if none has the name.
 pub fn choose(name: &str) -> bool {
-    match WRONGS.iter().find(|(known, _)| *known == name) {
-        Some((_, wrong)) => CHOSEN.set(*wrong).is_ok(),
-        None => false,
-    }
+    let place = WRONGS.iter().position(|(known, _)| *known == name);
+    CHOSEN.store(place.map_or(0, |place| place + 1), Ordering::SeqCst);
+    place.is_some()
+}
+
+fn chosen() -> Option<Wrong> {
+    let place = CHOSEN.load(Ordering::SeqCst).checked_sub(1)?;
+    Some(WRONGS[place].1)
 }
 
 /// Whether this wrong is in force.
 pub fn wrong(which: Wrong) -> bool {
-    CHOSEN.get() == Some(&which)
+    chosen() == Some(which)
 }
 
 /// The call as a wrong program takes it.
@@ -143,7 +147,7 @@ fn clamped(command: Command, n: u32) -> Command {
 
 /// The answer as a wrong program gives it.
 pub fn answer(request: &Request, answer: Answer) -> Answer {
-    match CHOSEN.get() {
+    match chosen() {
         Some(Wrong::SecondAsFirst) => Answer {
             which: answer.which.min(1),
             ..answer

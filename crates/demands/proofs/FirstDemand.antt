@@ -35,7 +35,8 @@ digest-zeros m r e = go (order longest (length m))
         never cc
 
 pub first-demand : FirstDemand
-unfolding tagOf matchOf saveOf loadOf checkVerdict checkOf proveVerdict proveOf bufferAfter applyVerdict applyOf imageAfter shapeOf shapeAfter gatewayOf
+unfolding tagOf matchOf saveOf loadOf checkVerdict checkOf proveVerdict proveOf bufferAfter
+    applyVerdict applyOf imageAfter shapeOf shapeAfter gatewayOf
 first-demand = record {
   digest = λ m r a. refuses _ (digestRules m) _ (a .verdict ∙ digest-rules m) refl
       (λ w e. a .bytes ∙ digest-zeros m w e);

@@ -1,4 +1,5 @@
--- How the numbers of right entries and of down entries change with one column more, so that sixteen counters follow them: `rightsFrom h`
+-- How the numbers of right entries and of down entries change with one column more, so that sixteen counters follow
+-- them: `rightsFrom h`
 -- counts the right columns of height h or more, `downsAbove h` the down columns of a height above h.
 -- Assumes nothing.
 use Prim.Native.Nat.{ℕ, suc, _≤_, _<_}
@@ -66,21 +67,26 @@ rights-more (x ∷ A) d h =
         → atLeast h (x ∷ new) ≡ cond (leb h (d .height)) (suc (atLeast (d .height) (x ∷ old))) (atLeast h (x ∷ old))
     kept k e = rw (le-leb (d .height) (x .height) k) (by (order (d .height) h) e)
       where
-        by : (d .height < h) ⊎ (h ≤ d .height) → atLeast h new ≡ cond (leb h (d .height)) (suc (atLeast (d .height) old)) (atLeast h old)
+        by : (d .height < h) ⊎ (h ≤ d .height)
+            → atLeast h new ≡ cond (leb h (d .height)) (suc (atLeast (d .height) old)) (atLeast h old)
             → atLeast h (x ∷ new) ≡ cond (leb h (d .height)) (suc (suc (atLeast (d .height) old))) (atLeast h (x ∷ old))
         by (inl l) e = let f = rw (lt-leb h (d .height) l) at e in rw (f, lt-leb h (d .height) l)
-        by (inr l) e = let f = rw (le-leb h (d .height) l) at e in rw (f, le-leb h (d .height) l, le-leb h (x .height) (omega arith))
+        by (inr l) e = let f = rw (le-leb h (d .height) l) at e in rw
+            (f, le-leb h (d .height) l, le-leb h (x .height) (omega arith))
 
     lost : x .height < d .height → atLeast h new ≡ cond (leb h (d .height)) (suc (atLeast (d .height) old)) (atLeast h old)
         → atLeast h new ≡ cond (leb h (d .height)) (suc (atLeast (d .height) (x ∷ old))) (atLeast h (x ∷ old))
     lost k e = rw (lt-leb (d .height) (x .height) k) (by (order (d .height) h) e)
       where
-        by : (d .height < h) ⊎ (h ≤ d .height) → atLeast h new ≡ cond (leb h (d .height)) (suc (atLeast (d .height) old)) (atLeast h old)
+        by : (d .height < h) ⊎ (h ≤ d .height)
+            → atLeast h new ≡ cond (leb h (d .height)) (suc (atLeast (d .height) old)) (atLeast h old)
             → atLeast h new ≡ cond (leb h (d .height)) (suc (atLeast (d .height) old)) (atLeast h (x ∷ old))
-        by (inl l) e = let f = rw (lt-leb h (d .height) l) at e in rw (f, lt-leb h (d .height) l, lt-leb h (x .height) (omega arith))
+        by (inl l) e = let f = rw (lt-leb h (d .height) l) at e in rw
+            (f, lt-leb h (d .height) l, lt-leb h (x .height) (omega arith))
         by (inr l) e = let f = rw (le-leb h (d .height) l) at e in rw (f, le-leb h (d .height) l)
 
-    go : (x .height < tallest A) ⊎ (tallest A ≤ x .height) → (x .height < tallest (A ++ (d ∷ []))) ⊎ (tallest (A ++ (d ∷ [])) ≤ x .height)
+    go : (x .height < tallest A) ⊎ (tallest A ≤ x .height)
+        → (x .height < tallest (A ++ (d ∷ []))) ⊎ (tallest (A ++ (d ∷ [])) ≤ x .height)
         → Greater (tallest A) (d .height) (tallest (A ++ (d ∷ [])))
         → atLeast h new ≡ cond (leb h (d .height)) (suc (atLeast (d .height) old)) (atLeast h old)
         → atLeast h (rightColumns (x ∷ (A ++ (d ∷ []))))
@@ -95,6 +101,7 @@ pub downs-more : (d : Column) (B : List Column) (h : ℕ)
     → length (downColumns h (d ∷ B)) ≡ cond (ltb h (d .height)) (suc (length (downColumns (d .height) B))) (length (downColumns h B))
 downs-more d B h = go (ltb h (d .height))
   where
-    go : (t : Bool) → length (cond t (d ∷ downColumns (d .height) B) (downColumns h B)) ≡ cond t (suc (length (downColumns (d .height) B))) (length (downColumns h B))
+    go : (t : Bool)
+        → length (cond t (d ∷ downColumns (d .height) B) (downColumns h B)) ≡ cond t (suc (length (downColumns (d .height) B))) (length (downColumns h B))
     go true = refl
     go false = refl

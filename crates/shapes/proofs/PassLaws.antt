@@ -1,4 +1,5 @@
--- The turns of the two passes: counters follow the columns passed, and the numbers written so far are those of the columns passed.
+-- The turns of the two passes: counters follow the columns passed, and the numbers written so far are those of the
+-- columns passed.
 -- Assumes nothing.
 use Prim.Native.Nat.{ℕ, suc, _+_, _≤_, _<_}
 use native.Mathlib.Omega.{arith}
@@ -38,15 +39,18 @@ raise-more r m l n h f j = go (ℕ-discrete j l)
             later (inr q) = absurd (e (omega arith))
 
 -- the counters of the down entries with a column of height h in front
-pub downs-raised : (m r : List ℕ) (d : Column) (B : List Column) → Counts (downsAbove B) m → Raised m (d .height) (d .height) r
+pub downs-raised : (m r : List ℕ) (d : Column) (B : List Column) → Counts (downsAbove B) m
+    → Raised m (d .height) (d .height) r
     → Counts (downsAbove (d ∷ B)) r
 downs-raised m r d B c s l =
     s l ∙ rw (c (d .height), c l, add-one) (sym (downs-more d B l))
 
 -- the counters of the right entries with a column of height h behind
-pub rights-raised : (m r : List ℕ) (A : List Column) (d : Column) → Counts (rightsFrom A) m → Raised m (d .height) (d .height + 1) r
+pub rights-raised : (m r : List ℕ) (A : List Column) (d : Column) → Counts (rightsFrom A) m
+    → Raised m (d .height) (d .height + 1) r
     → Counts (rightsFrom (A ++ (d ∷ []))) r
-rights-raised m r A d c s l = s l ∙ rw (c (d .height), c l, add-one (d .height), add-one (rightsFrom A (d .height))) (by (order (d .height) l) ∙ sym (rights-more A d l))
+rights-raised m r A d c s l = s l ∙ rw (c (d .height), c l, add-one (d .height), add-one (rightsFrom A (d .height)))
+    (by (order (d .height) l) ∙ sym (rights-more A d l))
   where
     by : (d .height < l) ⊎ (l ≤ d .height)
         → cond (ltb l (suc (d .height))) (suc (rightsFrom A (d .height))) (rightsFrom A l)

@@ -41,7 +41,8 @@ pub columns-none : (b : List ℕ) → columnsFrom b (countOf b) ≡ []
 columns-none b = let e : countOf b - countOf b ≡ 0 = omega arith in rw (e, no-blocks b (countOf b))
 
 pub columns-cons : (b : List ℕ) (i : ℕ) → i < countOf b → columnsFrom b i ≡ column (blockAt b i) ∷ columnsFrom b (suc i)
-columns-cons b i h = let e : countOf b - i ≡ suc (countOf b - suc i) = omega arith in rw (e, next-block b i (countOf b - suc i))
+columns-cons b i h = let e : countOf b - i ≡ suc (countOf b - suc i) = omega arith in rw
+    (e, next-block b i (countOf b - suc i))
 
 pub length-columns : (b : List ℕ) (i : ℕ) → length (columnsFrom b i) ≡ countOf b - i
 length-columns b i = length-map (blocksFrom b i (countOf b - i)) column ∙ length-blocks b i (countOf b - i)
@@ -68,7 +69,8 @@ pub down-turn : (b out out₀ m : List ℕ) (i : ℕ) → 0 < i → i ≤ countO
     → set out (i - 1) (getD m 0 0) ≡ patch out₀ (i - 1) (downsOf (columnsFrom b (i - 1)))
 down-turn b out out₀ m i p h l e c =
     let ei : i ≡ suc (i - 1) = omega arith in
-    let ex : out ≡ patch out₀ (suc (i - 1)) (downsOf (columnsFrom b i)) = e ∙ ap (λ (k : ℕ). patch out₀ k (downsOf (columnsFrom b i))) ei in
+    let ex : out ≡ patch out₀ (suc (i - 1)) (downsOf (columnsFrom b i)) = e ∙ ap
+    (λ (k : ℕ). patch out₀ k (downsOf (columnsFrom b i))) ei in
     let ec : columnsFrom b (i - 1) ≡ column (blockAt b (i - 1)) ∷ columnsFrom b i =
     columns-cons b (i - 1) (omega arith) ∙ ap (λ (k : ℕ). column (blockAt b (i - 1)) ∷ columnsFrom b k) (sym ei) in
     rw (ex, c 0, ec, downs-cons (column (blockAt b (i - 1))) (columnsFrom b i))
@@ -97,7 +99,8 @@ pub length-upto : (b : List ℕ) (i : ℕ) → length (entriesUpTo b i) ≡ i
 unfolding entriesUpTo
 length-upto b zero = refl
 length-upto b (suc i) =
-    length-append (entriesUpTo b i) (entryCount (row (blocksFrom b 0 (suc i))) (columnsFrom b (suc i)) ∷ []) ∙ omega (arith, length-upto b i)
+    length-append (entriesUpTo b i) (entryCount (row (blocksFrom b 0 (suc i))) (columnsFrom b (suc i)) ∷ []) ∙ omega
+    (arith, length-upto b i)
 
 pub no-rights : (n : ℕ) (b : List ℕ) → Counts (rightsFrom (row (blocksFrom b 0 0))) (replicate n 0)
 no-rights n b h = rw (no-blocks b 0) (zeros n h)
@@ -108,11 +111,13 @@ right-counters b m r i h e c s =
     rw (front-more b i) (rights-raised m r (row (blocksFrom b 0 i)) (column (blockAt b i)) c (rw e at s))
 
 -- before the first block, after the last, and what stands at block i
-pub right-start : (b out : List ℕ) → out ≡ patch out 0 (downsOf (columnsFrom b 0)) → out ≡ patch out 0 (entriesUpTo b 0 ++ downsOf (columnsFrom b 0))
+pub right-start : (b out : List ℕ) → out ≡ patch out 0 (downsOf (columnsFrom b 0))
+    → out ≡ patch out 0 (entriesUpTo b 0 ++ downsOf (columnsFrom b 0))
 unfolding entriesUpTo
 right-start b out e = e
 
-pub right-end : (b : List ℕ) (i : ℕ) → i ≡ countOf b → entriesUpTo b i ++ downsOf (columnsFrom b i) ≡ entriesUpTo b (countOf b)
+pub right-end : (b : List ℕ) (i : ℕ) → i ≡ countOf b
+    → entriesUpTo b i ++ downsOf (columnsFrom b i) ≡ entriesUpTo b (countOf b)
 right-end b i e = rw (e, columns-none b, none-written) (append-nil (entriesUpTo b (countOf b)))
 
 module _ (b out out₀ : List ℕ) (i : ℕ) (h : i < countOf b) (l : countOf b ≤ length out₀)
@@ -131,7 +136,8 @@ module _ (b out out₀ : List ℕ) (i : ℕ) (h : i < countOf b) (l : countOf b 
   unfolding entriesUpTo
   right-turn w ew =
       rw (e, split, add-one, ← ew)
-      (set-written out₀ (entriesUpTo b i) (downsAbove (columnsFrom b (suc i)) 0) w (downsOf (columnsFrom b (suc i))) i (length-upto b i)
+      (set-written out₀ (entriesUpTo b i) (downsAbove (columnsFrom b (suc i)) 0) w (downsOf (columnsFrom b (suc i)))
+      i (length-upto b i)
       (simp (length-append, length-upto b i, length-downs (columnsFrom b (suc i)), length-columns b (suc i)) (omega arith)))
 
   -- the number that a turn writes, and that it fits
@@ -139,7 +145,15 @@ module _ (b out out₀ : List ℕ) (i : ℕ) (h : i < countOf b) (l : countOf b 
       → getD out i 0 + getD r 0 0 ≡ entryCount (row (blocksFrom b 0 (suc i))) (columnsFrom b (suc i))
   right-sum r c = rw (right-at, c 0) (both-counters (row (blocksFrom b 0 (suc i))) (columnsFrom b (suc i)))
 
-  pub right-few : (r : List ℕ) → Counts (rightsFrom (row (blocksFrom b 0 (suc i)))) r → getD out i 0 + getD r 0 0 ≤ countOf b
+  pub right-few : (r : List ℕ) → Counts (rightsFrom (row (blocksFrom b 0 (suc i)))) r
+      → getD out i 0 + getD r 0 0 ≤ countOf b
   right-few r c =
       rw (right-at, c 0)
-      (omega (arith, downs-few 0 (columnsFrom b (suc i)), length-columns b (suc i), rights-few 0 (row (blocksFrom b 0 (suc i))), length-front b (suc i)))
+      (omega (
+        arith,
+        downs-few 0 (columnsFrom b (suc i)),
+        length-columns b (suc i),
+        rights-few 0
+            (row (blocksFrom b 0 (suc i))),
+        length-front b (suc i),
+      ))

@@ -25,7 +25,8 @@ use Rattle.shapes.specs.Counters.{downsOf, entriesUpTo, columnsFrom}
 use Rattle.shapes.proofs.PassLaws.{length-downs}
 use Rattle.shapes.proofs.RowPass.{length-columns, length-upto}
 
-entries-snoc : (bs : List Block) (p k : ℕ) → entriesFrom bs p (suc k) ≡ entriesFrom bs p k ++ (entriesOf bs (suc (p + k)) ∷ [])
+entries-snoc : (bs : List Block) (p k : ℕ)
+    → entriesFrom bs p (suc k) ≡ entriesFrom bs p k ++ (entriesOf bs (suc (p + k)) ∷ [])
 unfolding entriesFrom
 entries-snoc bs p zero = rw (add-zero p)
 entries-snoc bs p (suc k) =
@@ -40,7 +41,8 @@ module _ (b : List ℕ) (s : sound b ≡ true) where
       let t = take-blocks b 0 (suc i) (countOf b) (omega arith) in
       let d = drop-blocks b 0 (suc i) (countOf b) (omega arith) in
       let z : 0 + suc i ≡ suc i = omega arith in
-      sym (way-length (suc i) (blocksOf b) (sound-row b (sound-is b s) .sound) (omega (arith, length-blocks b 0 (countOf b))) ∙ rw (t, d, z))
+      sym (way-length (suc i) (blocksOf b) (sound-row b (sound-is b s) .sound)
+      (omega (arith, length-blocks b 0 (countOf b))) ∙ rw (t, d, z))
 
   pub entries-are : (i : ℕ) → i ≤ countOf b → entriesUpTo b i ≡ entriesFrom (blocksOf b) 0 i
   unfolding entriesUpTo entriesFrom
@@ -79,7 +81,8 @@ shape-unique b out r q x y p w = (
 )
 
 -- ---- the buffer between the passes and after them
-module _ (b : List ℕ) (out between : List ℕ) (room : countOf b ≤ length out) (e : between ≡ patch out 0 (downsOf (columnsFrom b 0))) where
+module _ (b : List ℕ) (out between : List ℕ) (room : countOf b ≤ length out)
+    (e : between ≡ patch out 0 (downsOf (columnsFrom b 0))) where
   short : 0 + length (downsOf (columnsFrom b 0)) ≤ length out
   short = omega (arith, length-downs (columnsFrom b 0), length-columns b 0)
 
@@ -89,7 +92,9 @@ module _ (b : List ℕ) (out between : List ℕ) (room : countOf b ≤ length ou
   pub downs-written : between ≡ patch between 0 (downsOf (columnsFrom b 0))
   downs-written = rw e (sym (patch-over out (downsOf (columnsFrom b 0)) (downsOf (columnsFrom b 0)) 0 refl short))
 
-  pub entries-written : (after : List ℕ) → after ≡ patch between 0 (entriesUpTo b (countOf b)) → after ≡ patch out 0 (entriesUpTo b (countOf b))
+  pub entries-written : (after : List ℕ) → after ≡ patch between 0 (entriesUpTo b (countOf b))
+      → after ≡ patch out 0 (entriesUpTo b (countOf b))
   entries-written after f =
-      let l : length (downsOf (columnsFrom b 0)) ≡ length (entriesUpTo b (countOf b)) = omega (arith, length-downs (columnsFrom b 0), length-columns b 0, length-upto b (countOf b)) in
+      let l : length (downsOf (columnsFrom b 0)) ≡ length (entriesUpTo b (countOf b)) = omega
+      (arith, length-downs (columnsFrom b 0), length-columns b 0, length-upto b (countOf b)) in
       f ∙ rw e (patch-over out (downsOf (columnsFrom b 0)) (entriesUpTo b (countOf b)) 0 l short)

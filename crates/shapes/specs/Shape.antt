@@ -1,4 +1,5 @@
--- The shape printer's answer: "refused 1" for a bad image, "else a header with n and per block its position, height and entries (also
+-- The shape printer's answer: "refused 1" for a bad image, "else a header with n and per block its position, height
+-- and entries (also
 -- above 200)". The numbers of entries are written into a lent buffer, which must have room for n.
 -- Assumes nothing.
 use Prim.Native.Nat.{ℕ, zero, suc, _-_}
@@ -32,7 +33,8 @@ shapeOf b room =
     record { verdict = v; blocks = settled v (countOf b) 0 }
 
 unfoldable pub shapeAfter : List ℕ → List ℕ → List ℕ
-shapeAfter b out = settled (verdictOf (shapeRules b (length out))) (patch out 0 (entriesFrom (blocksOf b) 0 (countOf b))) out
+shapeAfter b out = settled (verdictOf (shapeRules b (length out)))
+    (patch out 0 (entriesFrom (blocksOf b) 0 (countOf b))) out
 
 -- the height of the block at position p, 0 where there is none
 unfoldable pub heightOf : List ℕ → ℕ → ℕ

@@ -183,9 +183,7 @@ fn spoil(kind: Kind, random: &mut Random, first: &mut RawProof, second: &mut Raw
 
 /// A right entry of rank 0, or a leaf of own 0, among the second's later ones.
 fn spoil_with_right(random: &mut Random, second: &mut RawProof) {
-    let Some(last) = second.entries.last().map(|entry| entry.level) else {
-        return second.entries.push(raw::leaf(0, [0; 32]));
-    };
+    let last = second.entries.last().map_or(1, |entry| entry.level);
     if last == 1 || random.one_in(2) {
         return second.entries.push(raw::leaf(0, [0; 32]));
     }

@@ -39,7 +39,7 @@ pub fn two_proofs(p: u32, held: Metadata, first: Vec<u8>, second: Vec<u8>) -> Re
 /// Whether the bytes are whole entries and a stop, whatever is in them.
 fn is_whole(proof: &[u8]) -> bool {
     let path = proof.len().checked_sub(HEADER + STOP);
-    path.is_some_and(|length| length / ENTRY * ENTRY == length)
+    path.map_or(false, |length| length / ENTRY * ENTRY == length)
 }
 
 /// Every bit of the proof of position 3 of the five, flipped.

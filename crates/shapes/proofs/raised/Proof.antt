@@ -45,8 +45,14 @@ loop-less c = search needs
 
 loop-again : tie.Need-loop-again Inv-loop μ-loop
 loop-again c =
-    let p = c .before in
-    (search needs, search needs, simp length-set (search needs), search needs, raise-more (p .loop .r) (p .before .args .t1) (p .loop .l) _ (search needs) (p .loop .inv .4))
+    let p = c .before in (
+      search needs,
+      search needs,
+      simp length-set (search needs),
+      search needs,
+      raise-more (p .loop .r)
+          (p .before .args .t1) (p .loop .l) _ (search needs) (p .loop .inv .4),
+    )
 
 returns : tie.Need-returns Inv-loop μ-loop
 returns c =

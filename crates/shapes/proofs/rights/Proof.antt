@@ -19,7 +19,8 @@ use Rattle.shapes.proofs.rights.Tie as tie
 
 abbrev Inv-loop : tie.InvT-loop
 Inv-loop b x out₀ m₀ i₀ out m i =
-    (i ≤ countOf b) × (length out ≡ length out₀) × (length m ≡ 16) × (out ≡ patch out₀ 0 (entriesUpTo b i ++ downsOf (columnsFrom b i))) × Counts (rightsFrom (row (blocksFrom b 0 i))) m
+    (i ≤ countOf b) × (length out ≡ length out₀) × (length m ≡ 16) ×
+    (out ≡ patch out₀ 0 (entriesUpTo b i ++ downsOf (columnsFrom b i))) × Counts (rightsFrom (row (blocksFrom b 0 i))) m
 
 abbrev μ-loop : tie.MeasureT-loop
 μ-loop b x out₀ m₀ i₀ out m i = countOf b - i
@@ -34,8 +35,12 @@ height-requires : tie.Need-height-requires Inv-loop μ-loop
 height-requires c κs =
     let p = c .before .before in
     let s = p .before .before .before in
-    let n = count-is (s .args .b .now) (s .args .x) (s .pre .1) in
-    (s .pre .1, room (s .args .b .now) (s .pre .0) (p .loop .i) (omega arith), omega (arith, few (s .args .b .now) (s .pre .0)))
+    let n = count-is (s .args .b .now) (s .args .x) (s .pre .1) in (
+      s .pre .1,
+      room (s .args .b .now) (s .pre .0) (p .loop .i) (omega arith),
+      omega
+          (arith, few (s .args .b .now) (s .pre .0)),
+    )
 
 add-raised : tie.Need-add-raised Inv-loop μ-loop
 add-raised c = search needs
@@ -51,7 +56,12 @@ raised-requires c κs =
       omega arith,
       omega arith,
       rw (p .loop .inv .4 (c .height .result))
-          (omega (arith, few b (s .pre .0), rights-few (c .height .result) (row (blocksFrom b 0 (p .loop .i))), length-front b (p .loop .i))),
+          (omega (
+            arith,
+            few b (s .pre .0),
+            rights-few (c .height .result) (row (blocksFrom b 0 (p .loop .i))),
+            length-front b (p .loop .i),
+          )),
     )
 
 mul-out : tie.Need-mul-out Inv-loop μ-loop
@@ -77,8 +87,14 @@ add-out c =
     let s = p .before .before .before in
     let b = s .args .b .now in
     let n = count-is b (s .args .x) (s .pre .1) in
-    let k = right-counters b (p .loop .m) (r .raised .result) (p .loop .i) (t .height .result) (t .height .ensures .0) (p .loop .inv .4) (r .raised .ensures) in
-    omega (arith, few b (s .pre .0), right-few b (p .loop .out) (s .args .out .now) (p .loop .i) (omega arith) (omega arith) (p .loop .inv .3) (r .raised .result) k)
+    let k = right-counters b (p .loop .m) (r .raised .result) (p .loop .i) (t .height .result)
+    (t .height .ensures .0) (p .loop .inv .4) (r .raised .ensures) in
+    omega (
+      arith,
+      few b (s .pre .0),
+      right-few b (p .loop .out) (s .args .out .now) (p .loop .i) (omega arith)
+          (omega arith) (p .loop .inv .3) (r .raised .result) k,
+    )
 
 mul-out-2 : tie.Need-mul-out-2 Inv-loop μ-loop
 mul-out-2 c =
@@ -113,12 +129,14 @@ loop-again c =
     let b = s .args .b .now in
     let n = count-is b (s .args .x) (s .pre .1) in
     let v = p .loop .inv in
-    let k = right-counters b (p .loop .m) (r .raised .result) (p .loop .i) (t .height .result) (t .height .ensures .0) (v .4) (r .raised .ensures) in
+    let k = right-counters b (p .loop .m) (r .raised .result) (p .loop .i) (t .height .result)
+    (t .height .ensures .0) (v .4) (r .raised .ensures) in
     let o = s .args .out .now in (
       omega arith,
       simp length-set (v .1),
       search needs,
-      right-turn b (p .loop .out) o (p .loop .i) (omega arith) (omega arith) (v .3) _ (right-sum b (p .loop .out) o (p .loop .i) (omega arith) (omega arith) (v .3) (r .raised .result) k),
+      right-turn b (p .loop .out) o (p .loop .i) (omega arith) (omega arith) (v .3) _
+          (right-sum b (p .loop .out) o (p .loop .i) (omega arith) (omega arith) (v .3) (r .raised .result) k),
       rw add-one k,
     )
 

@@ -66,7 +66,8 @@ returns-2 c =
     let n = count-is b (h .header .result) (h .header .ensures .0) in
     let r : countOf b ≤ length (a .entries .now) = omega arith in
     let o = d .downs .last .1 .1 .0 in
-    done b (sym (t .is-sound .ensures) ∙ h .before .if1 .taken) (a .entries .now) (w .rights .last .1 .1 .0) (h .header .result .count) n (e .if2 .left)
+    done b (sym (t .is-sound .ensures) ∙ h .before .if1 .taken) (a .entries .now) (w .rights .last .1 .1 .0)
+    (h .header .result .count) n (e .if2 .left)
     (entries-written b (a .entries .now) o r (d .downs .ensures) (w .rights .last .1 .1 .0) (w .rights .ensures))
 
 returns-3 : tie.Need-returns-3
