@@ -1,0 +1,105 @@
+//! The gateway: metadata, saved and loaded, and the check of a command.
+
+use crate::raw;
+use crate::{Command, Label, Refusal, Tag};
+
+/// What the gateway holds of an archive: its count and its root label.
+#[derive(Clone, Copy, Debug, PartialEq, Eq, Hash)]
+pub struct Metadata {
+    pub count: u64,
+    pub label: Label,
+}
+
+/// What the gateway answers to a command that it accepts.
+#[derive(Clone, Copy, Debug, PartialEq, Eq, Hash)]
+pub struct Accepted {
+    /// The tag at p before the edit, 32 zero bytes for p = 0; Delete so reports the tag removed.
+    pub tag: Tag,
+    /// The new metadata, worked out from the proofs.
+    pub metadata: Metadata,
+}
+
+impl Metadata {
+    /// The metadata as 39 bytes; a count over 4,096 is refused with 12.
+    ///
+    /// ```
+    /// # fn main() -> Result<(), quaythistle::Refusal> {
+    /// use quaythistle::{Image, Metadata, Refusal};
+    /// let held = Image::new().metadata();
+    /// assert_eq!(Metadata::load(&held.save()?)?, held);
+    /// let over = Metadata { count: 4097, ..held };
+    /// assert_eq!(over.save(), Err(Refusal::BadMetadata));
+    /// # Ok(())
+    /// # }
+    /// ```
+    pub fn save(&self) -> Result<[u8; 39], Refusal> {
+        // SAFETY: the call takes every count and label.
+        let answer = unsafe { raw::qt_gateway_save(self.plain()) };
+        answer.verdict.settled(answer.bytes)
+    }
+
+    /// The metadata saved in exactly 39 bytes; any others are refused with 12.
+    ///
+    /// ```
+    /// use quaythistle::{Metadata, Refusal};
+    /// assert_eq!(Metadata::load(&[0; 39]), Err(Refusal::BadMetadata));
+    /// ```
+    pub fn load(saved: &[u8]) -> Result<Metadata, Refusal> {
+        // SAFETY: each pointer and length are those of a slice, and a slice that is written is lent alone.
+        let answer = unsafe { raw::qt_gateway_load(saved.as_ptr(), saved.len()) };
+        answer.verdict.settled(Metadata::shown(answer.metadata))
+    }
+
+    /// The gateway's check of a command, with the bytes of its first proof and, for Delete, of its second. Refuses with 12, 2, 3, 4, then
+    /// 7, 8, 9 on the first proof, the same on the second, then 10, in this order.
+    ///
+    /// ```
+    /// # fn main() -> Result<(), quaythistle::Refusal> {
+    /// use quaythistle::{Command, Image, Refusal, Which};
+    /// let mut image = Image::new();
+    /// let held = image.metadata();
+    /// let insert = Command::Insert { position: 0, height: 1, tag: quaythistle::tag(b"readings")? };
+    /// let accepted = held.check(&insert, image.prove(0)?.as_bytes(), &[])?;
+    /// image.apply(&insert)?;
+    /// assert_eq!(accepted.metadata, image.metadata());
+    /// assert_eq!(held.check(&insert, b"no proof", &[]), Err(Refusal::BadProof(Which::First)));
+    /// # Ok(())
+    /// # }
+    /// ```
+    pub fn check(
+        &self,
+        command: &Command,
+        first: &[u8],
+        second: &[u8],
+    ) -> Result<Accepted, Refusal> {
+        // SAFETY: each pointer and length are those of a slice, and a slice that is written is lent alone.
+        let answer = unsafe {
+            raw::qt_gateway_check(
+                self.plain(),
+                command.plain(),
+                first.as_ptr(),
+                first.len(),
+                second.as_ptr(),
+                second.len(),
+            )
+        };
+        answer.verdict.settled(Accepted {
+            tag: answer.tag.bytes,
+            metadata: Metadata::shown(answer.metadata),
+        })
+    }
+
+    fn plain(&self) -> raw::Metadata {
+        raw::Metadata {
+            count: self.count,
+            label: raw::Digest { bytes: self.label },
+        }
+    }
+
+    pub(crate) fn shown(metadata: raw::Metadata) -> Metadata {
+        Metadata {
+            count: metadata.count,
+            label: metadata.label.bytes,
+        }
+    }
+}

@@ -1,0 +1,157 @@
+//! The C interface (`include/quaythistle.h`), as it is.
+
+use crate::Refusal;
+
+#[repr(C)]
+#[derive(Clone, Copy)]
+pub struct Digest {
+    pub bytes: [u8; 32],
+}
+
+#[repr(C)]
+#[derive(Clone, Copy)]
+pub struct Verdict {
+    pub refusal: u32,
+    pub proof: u32,
+}
+
+#[repr(C)]
+#[derive(Clone, Copy)]
+pub struct Metadata {
+    pub count: u64,
+    pub label: Digest,
+}
+
+#[repr(C)]
+#[derive(Clone, Copy)]
+pub struct Command {
+    pub operation: u32,
+    pub height: u32,
+    pub position: u64,
+    pub tag: Digest,
+}
+
+#[repr(C)]
+pub struct Digested {
+    pub verdict: Verdict,
+    pub digest: Digest,
+}
+
+#[repr(C)]
+pub struct Matched {
+    pub verdict: Verdict,
+    pub yes: bool,
+}
+
+#[repr(C)]
+pub struct MetadataAnswer {
+    pub verdict: Verdict,
+    pub metadata: Metadata,
+}
+
+#[repr(C)]
+pub struct Proved {
+    pub verdict: Verdict,
+    pub length: u64,
+    pub entries: u64,
+}
+
+#[repr(C)]
+pub struct Counted {
+    pub verdict: Verdict,
+    pub count: u64,
+}
+
+#[repr(C)]
+pub struct Saved {
+    pub verdict: Verdict,
+    pub bytes: [u8; 39],
+}
+
+#[repr(C)]
+pub struct Answer {
+    pub verdict: Verdict,
+    pub tag: Digest,
+    pub metadata: Metadata,
+}
+
+extern "C" {
+    pub fn qt_sha256_digest(message: *const u8, length: usize) -> Digested;
+    pub fn qt_labels_tag(block: *const u8, length: usize) -> Digested;
+    pub fn qt_labels_matches(tag: Digest, block: *const u8, length: usize) -> Matched;
+    pub fn qt_labels_height(word: u16) -> u8;
+    pub fn qt_store_check(image: *const u8, length: usize) -> MetadataAnswer;
+    pub fn qt_store_prove(
+        image: *const u8,
+        length: usize,
+        position: u64,
+        buffer: *mut u8,
+        room: usize,
+        place: u64,
+    ) -> Proved;
+    pub fn qt_store_apply(image: *mut u8, length: usize, command: Command) -> Counted;
+    pub fn qt_shapes_shape(
+        image: *const u8,
+        length: usize,
+        entries: *mut u64,
+        room: usize,
+    ) -> Counted;
+    pub fn qt_gateway_save(metadata: Metadata) -> Saved;
+    pub fn qt_gateway_load(saved: *const u8, length: usize) -> MetadataAnswer;
+    pub fn qt_gateway_check(
+        metadata: Metadata,
+        command: Command,
+        first: *const u8,
+        first_length: usize,
+        second: *const u8,
+        second_length: usize,
+    ) -> Answer;
+}
+
+impl Verdict {
+    /// What the call answers where it is done, else the refusal.
+    pub fn settled<T>(self, answer: T) -> Result<T, Refusal> {
+        match Refusal::numbered(self.refusal, self.proof) {
+            None => Ok(answer),
+            Some(refusal) => Err(refusal),
+        }
+    }
+}
+
+#[cfg(test)]
+mod tests {
+    use super::*;
+    use std::mem::{align_of, size_of};
+
+    /// The sizes and alignments that `tests/c/layout.h` holds the header to.
+    #[test]
+    fn sizes_are_the_header_s() {
+        assert_eq!((size_of::<Digest>(), align_of::<Digest>()), (32, 1));
+        assert_eq!((size_of::<Verdict>(), align_of::<Verdict>()), (8, 4));
+        assert_eq!((size_of::<Metadata>(), align_of::<Metadata>()), (40, 8));
+        assert_eq!((size_of::<Command>(), align_of::<Command>()), (48, 8));
+        assert_eq!((size_of::<Digested>(), align_of::<Digested>()), (40, 4));
+        assert_eq!((size_of::<Matched>(), align_of::<Matched>()), (12, 4));
+        assert_eq!(size_of::<MetadataAnswer>(), 48);
+        assert_eq!(size_of::<Proved>(), 24);
+        assert_eq!(size_of::<Counted>(), 16);
+        assert_eq!(size_of::<Saved>(), 48);
+        assert_eq!(size_of::<Answer>(), 80);
+    }
+
+    #[test]
+    fn verdicts_are_settled() {
+        let verdict = |refusal, proof| Verdict { refusal, proof };
+        assert_eq!(verdict(0, 0).settled(7), Ok(7));
+        for number in 1..=12 {
+            for proof in [1, 2] {
+                let refusal = verdict(number, proof).settled(7).unwrap_err();
+                assert_eq!(refusal.number(), number);
+                assert!(refusal
+                    .proof()
+                    .map_or(true, |which| which as u32 + 1 == proof));
+                assert_eq!(refusal.proof().is_some(), (7..=9).contains(&number));
+            }
+        }
+    }
+}

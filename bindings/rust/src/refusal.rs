@@ -1,0 +1,152 @@
+//! What comes back when a call will not.
+
+use std::error::Error;
+use std::fmt;
+
+/// Which proof of a command. Delete carries two; the others one, their `First`.
+#[derive(Clone, Copy, Debug, PartialEq, Eq, Hash)]
+pub enum Which {
+    First,
+    Second,
+}
+
+/// Why a call will not, in the order of their numbers, 1 to 12. A refusal changes nothing that the call was lent.
+#[derive(Clone, Copy, Debug, PartialEq, Eq, Hash)]
+pub enum Refusal {
+    /// 1: buffer under 7 bytes, version not 1, length not 2 + 33n, n over 4,096, buffer shorter than the image, or a height over 15.
+    BadImage,
+    /// 2: outside the command's range.
+    BadPosition,
+    /// 3: Insert with height over 15.
+    BadHeight,
+    /// 4: Insert with n = 4,096.
+    Full,
+    /// 5: proof, grown image or numbers of entries do not fit their buffer.
+    NoRoom,
+    /// 6: path of more than 200 entries.
+    TooDeep,
+    /// 7: bytes break a rule of the proof's form, or are not exactly 77 + 38k for some k from 0 to 200 with that length stated.
+    BadProof(Which),
+    /// 8: proved position is not the one wanted, or stop's own is not 1 (0 for position 0).
+    WrongPosition(Which),
+    /// 9: proved rank is not the count, or recomputed root label is not the one held.
+    WrongLabel(Which),
+    /// 10: Delete's proofs do not meet.
+    NotNeighbours,
+    /// 11: over 4,096 bytes to digest.
+    LongMessage,
+    /// 12: count over 4,096, or saved bytes not of the stated form.
+    BadMetadata,
+}
+
+impl Refusal {
+    /// The refusal's number.
+    ///
+    /// ```
+    /// use quaythistle::{Refusal, Which};
+    /// assert_eq!(Refusal::BadImage.number(), 1);
+    /// assert_eq!(Refusal::BadProof(Which::Second).number(), 7);
+    /// assert_eq!(Refusal::BadMetadata.number(), 12);
+    /// ```
+    pub fn number(self) -> u32 {
+        match self {
+            Refusal::BadImage => 1,
+            Refusal::BadPosition => 2,
+            Refusal::BadHeight => 3,
+            Refusal::Full => 4,
+            Refusal::NoRoom => 5,
+            Refusal::TooDeep => 6,
+            Refusal::BadProof(_) => 7,
+            Refusal::WrongPosition(_) => 8,
+            Refusal::WrongLabel(_) => 9,
+            Refusal::NotNeighbours => 10,
+            Refusal::LongMessage => 11,
+            Refusal::BadMetadata => 12,
+        }
+    }
+
+    /// The proof that 7, 8 and 9 speak of.
+    ///
+    /// ```
+    /// use quaythistle::{Refusal, Which};
+    /// assert_eq!(Refusal::WrongLabel(Which::Second).proof(), Some(Which::Second));
+    /// assert_eq!(Refusal::NotNeighbours.proof(), None);
+    /// ```
+    pub fn proof(self) -> Option<Which> {
+        match self {
+            Refusal::BadProof(which)
+            | Refusal::WrongPosition(which)
+            | Refusal::WrongLabel(which) => Some(which),
+            _ => None,
+        }
+    }
+
+    /// The refusal's name.
+    ///
+    /// ```
+    /// use quaythistle::{Refusal, Which};
+    /// assert_eq!(Refusal::NoRoom.name(), "NO ROOM");
+    /// assert_eq!(Refusal::BadProof(Which::First).name(), "BAD PROOF");
+    /// ```
+    pub fn name(self) -> &'static str {
+        match self {
+            Refusal::BadImage => "BAD IMAGE",
+            Refusal::BadPosition => "BAD POSITION",
+            Refusal::BadHeight => "BAD HEIGHT",
+            Refusal::Full => "FULL",
+            Refusal::NoRoom => "NO ROOM",
+            Refusal::TooDeep => "TOO DEEP",
+            Refusal::BadProof(_) => "BAD PROOF",
+            Refusal::WrongPosition(_) => "WRONG POSITION",
+            Refusal::WrongLabel(_) => "WRONG LABEL",
+            Refusal::NotNeighbours => "NOT NEIGHBOURS",
+            Refusal::LongMessage => "LONG MESSAGE",
+            Refusal::BadMetadata => "BAD METADATA",
+        }
+    }
+
+    /// The refusal of a number and a proof, none for 0.
+    pub(crate) fn numbered(number: u32, proof: u32) -> Option<Refusal> {
+        let which = if proof == 2 {
+            Which::Second
+        } else {
+            Which::First
+        };
+        match number {
+            0 => None,
+            1 => Some(Refusal::BadImage),
+            2 => Some(Refusal::BadPosition),
+            3 => Some(Refusal::BadHeight),
+            4 => Some(Refusal::Full),
+            5 => Some(Refusal::NoRoom),
+            6 => Some(Refusal::TooDeep),
+            7 => Some(Refusal::BadProof(which)),
+            8 => Some(Refusal::WrongPosition(which)),
+            9 => Some(Refusal::WrongLabel(which)),
+            10 => Some(Refusal::NotNeighbours),
+            11 => Some(Refusal::LongMessage),
+            12 => Some(Refusal::BadMetadata),
+            _ => unreachable!("no call refuses with {number}"),
+        }
+    }
+}
+
+/// The refusal's name, and the proof that it speaks of.
+///
+/// ```
+/// use quaythistle::{Refusal, Which};
+/// assert_eq!(Refusal::BadImage.to_string(), "BAD IMAGE");
+/// assert_eq!(Refusal::WrongLabel(Which::First).to_string(), "WRONG LABEL (first proof)");
+/// ```
+impl fmt::Display for Refusal {
+    fn fmt(&self, f: &mut fmt::Formatter<'_>) -> fmt::Result {
+        f.write_str(self.name())?;
+        match self.proof() {
+            Some(Which::First) => f.write_str(" (first proof)"),
+            Some(Which::Second) => f.write_str(" (second proof)"),
+            None => Ok(()),
+        }
+    }
+}
+
+impl Error for Refusal {}

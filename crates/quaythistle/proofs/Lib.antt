@@ -1,0 +1,3 @@
+mod Calls
+mod Strange
+mod Unique

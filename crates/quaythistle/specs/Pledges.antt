@@ -1,0 +1,72 @@
+-- THE PLEDGES of the exports: each is the call below it, part for part of the answer and byte for byte of what is lent.
+-- Assumes nothing.
+use Prim.Native.Nat.{ℕ}
+use mathlib.Core.Path.{_≡_}
+use mathlib.Core.List.{List}
+use lib.ListN.{length}
+use Rattle.sha256.specs.Answer.{digestOf}
+use Rattle.labels.specs.Tags.{tagOf, matchOf}
+use Rattle.labels.specs.Heights.{heightOf}
+use Rattle.store.specs.Answers.{checkOf, proveOf, bufferAfter, applyOf, imageAfter}
+use Rattle.shapes.specs.Shape.{shapeOf, shapeAfter}
+use Rattle.gateway.specs.Saving.{saveOf, loadOf}
+use Rattle.gateway.specs.Gateway.{gatewayOf}
+use Rattle.quaythistle.specs.declared.plain.QtDigest.{QtDigest}
+use Rattle.quaythistle.specs.declared.plain.QtMetadata.{QtMetadata}
+use Rattle.quaythistle.specs.declared.plain.QtCommand.{QtCommand}
+use Rattle.quaythistle.specs.declared.QtDigested.{QtDigested}
+use Rattle.quaythistle.specs.declared.QtMatched.{QtMatched}
+use Rattle.quaythistle.specs.declared.QtMetadataAnswer.{QtMetadataAnswer}
+use Rattle.quaythistle.specs.declared.QtProved.{QtProved}
+use Rattle.quaythistle.specs.declared.QtCounted.{QtCounted}
+use Rattle.quaythistle.specs.declared.QtSaved.{QtSaved}
+use Rattle.quaythistle.specs.declared.QtAnswer.{QtAnswer}
+use Rattle.quaythistle.specs.Plain.{plainVerdict, plainDigest, heldMetadata, shownMetadata, commandOf}
+
+pub record Digests (message : List ℕ) (r : QtDigested) : Type 0 where
+  pub verdict : r .verdict ≡ plainVerdict (digestOf message .verdict)
+  pub digest : r .digest ≡ plainDigest (digestOf message .bytes)
+
+pub record Tags (block : List ℕ) (r : QtDigested) : Type 0 where
+  pub verdict : r .verdict ≡ plainVerdict (tagOf block .verdict)
+  pub digest : r .digest ≡ plainDigest (tagOf block .tag)
+
+pub record Matches (tag : QtDigest) (block : List ℕ) (r : QtMatched) : Type 0 where
+  pub verdict : r .verdict ≡ plainVerdict (matchOf (tag .bytes) block .verdict)
+  pub yes : r .yes ≡ matchOf (tag .bytes) block .yes
+
+pub record Draws (word r : ℕ) : Type 0 where
+  pub height : r ≡ heightOf word
+
+pub record Checks (b : List ℕ) (r : QtMetadataAnswer) : Type 0 where
+  pub verdict : r .verdict ≡ plainVerdict (checkOf b .verdict)
+  pub metadata : r .metadata ≡ shownMetadata (checkOf b .metadata)
+
+pub record Proves (b : List ℕ) (position : ℕ) (lent : List ℕ) (place : ℕ) (r : QtProved) (after : List ℕ) : Type 0 where
+  pub verdict : r .verdict ≡ plainVerdict (proveOf b position (length lent) place .verdict)
+  pub bytes : r .length ≡ proveOf b position (length lent) place .length
+  pub entries : r .entries ≡ proveOf b position (length lent) place .entries
+  pub buffer : after ≡ bufferAfter b position lent place
+
+pub record Applies (b : List ℕ) (k : QtCommand) (r : QtCounted) (after : List ℕ) : Type 0 where
+  pub verdict : r .verdict ≡ plainVerdict (applyOf b (commandOf k) .verdict)
+  pub count : r .count ≡ applyOf b (commandOf k) .count
+  pub image : after ≡ imageAfter b (commandOf k)
+
+pub record Shapes (b lent : List ℕ) (r : QtCounted) (after : List ℕ) : Type 0 where
+  pub verdict : r .verdict ≡ plainVerdict (shapeOf b (length lent) .verdict)
+  pub count : r .count ≡ shapeOf b (length lent) .blocks
+  pub entries : after ≡ shapeAfter b lent
+
+pub record Saves (m : QtMetadata) (r : QtSaved) : Type 0 where
+  pub verdict : r .verdict ≡ plainVerdict (saveOf (heldMetadata m) .verdict)
+  pub bytes : r .bytes ≡ saveOf (heldMetadata m) .bytes
+
+pub record Loads (saved : List ℕ) (r : QtMetadataAnswer) : Type 0 where
+  pub verdict : r .verdict ≡ plainVerdict (loadOf saved .verdict)
+  pub metadata : r .metadata ≡ shownMetadata (loadOf saved .metadata)
+
+pub record Answers (m : QtMetadata) (k : QtCommand) (first second : List ℕ) (r : QtAnswer) : Type 0 where
+  pub verdict : r .verdict ≡ plainVerdict (gatewayOf (heldMetadata m) (commandOf k) first second .verdict)
+  pub tag : r .tag ≡ plainDigest (gatewayOf (heldMetadata m) (commandOf k) first second .tag)
+  pub metadata : r .metadata ≡ shownMetadata (gatewayOf (heldMetadata m) (commandOf k) first second .metadata)

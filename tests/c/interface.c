@@ -1,0 +1,384 @@
+/* Calls every function of quaythistle.h, and provokes every refusal where a call can give it. The last line is 'N passed, M failed'. */
+#include "layout.h"
+#include <stdio.h>
+#include <string.h>
+
+static int passed, failed;
+
+#define CHECK(fact) check((fact), #fact, __LINE__)
+
+static void check(bool held, const char *fact, int line) {
+    if (held) {
+        passed += 1;
+        return;
+    }
+    failed += 1;
+    printf("interface.c:%d: not so: %s\n", line, fact);
+}
+
+static const qt_digest ZERO;
+
+static bool same(qt_digest a, qt_digest b) { return memcmp(a.bytes, b.bytes, sizeof a.bytes) == 0; }
+
+static bool same_metadata(qt_metadata a, qt_metadata b) { return a.count == b.count && same(a.label, b.label); }
+
+static bool is(qt_verdict v, uint32_t refusal, uint32_t proof) { return v.refusal == refusal && v.proof == proof; }
+
+static bool done(qt_verdict v) { return is(v, QT_DONE, QT_NO_PROOF); }
+
+static bool refused(qt_verdict v, uint32_t refusal) { return is(v, refusal, QT_NO_PROOF); }
+
+static qt_digest hex(const char *digits) {
+    qt_digest d;
+    for (size_t i = 0; i < sizeof d.bytes; i += 1) {
+        unsigned byte;
+        sscanf(digits + 2 * i, "%2x", &byte);
+        d.bytes[i] = (uint8_t)byte;
+    }
+    return d;
+}
+
+static qt_digest digest_of(const void *message, size_t length) { return qt_sha256_digest(message, length).digest; }
+
+static qt_command command(uint32_t operation, uint64_t position, uint32_t height, qt_digest tag) {
+    return (qt_command){.operation = operation, .height = height, .position = position, .tag = tag};
+}
+
+/* An archive of n blocks of height 0 and a zero tag, in a buffer of its own. */
+static uint8_t flat[QT_LONGEST_IMAGE + 33];
+
+static size_t fill_flat(size_t n) {
+    size_t rest = 2 + 33 * n;
+    memset(flat, 0, sizeof flat);
+    flat[0] = 1;
+    flat[1] = (uint8_t)(rest >> 24);
+    flat[2] = (uint8_t)(rest >> 16);
+    flat[3] = (uint8_t)(rest >> 8);
+    flat[4] = (uint8_t)rest;
+    flat[5] = (uint8_t)(n >> 8);
+    flat[6] = (uint8_t)n;
+    return QT_IMAGE_SIZE(n);
+}
+
+/* The row of five, blocks A to E with heights 0, 2, 0, 1, 2, made by five inserts, with room for one more block. */
+#define FIVE_ROOM QT_IMAGE_SIZE(6)
+static uint8_t five[FIVE_ROOM];
+static const uint32_t five_heights[5] = {0, 2, 0, 1, 2};
+
+static qt_digest letter(size_t i) { return digest_of(&"ABCDE"[i], 1); }
+
+static void fill_five(void) {
+    static const uint8_t none[7] = {1, 0, 0, 0, 2, 0, 0};
+    memset(five, 0, sizeof five);
+    memcpy(five, none, sizeof none);
+    for (size_t i = 0; i < 5; i += 1) qt_store_apply(five, sizeof five, command(QT_INSERT, i, five_heights[i], letter(i)));
+}
+
+static const char *const empty_label = "85dd67783c67aa0ad02f06870ed745e0f8b7ae9eb94ab43c257bba9b2fd3390b";
+static const char *const five_label = "58e3ab158035b449e489a22d72a95bf6550cbd259a688b36310ad6e485a06c23";
+
+/* Digests, tags and heights. */
+static void digests(void) {
+    static const uint8_t long_message[QT_LONGEST_MESSAGE + 1];
+    qt_digest abc = hex("ba7816bf8f01cfea414140de5dae2223b00361a396177a9cb410ff61f20015ad");
+    qt_digest none = hex("e3b0c44298fc1c149afbf4c8996fb92427ae41e4649b934ca495991b7852b855");
+    qt_digested d = qt_sha256_digest((const uint8_t *)"abc", 3);
+    CHECK(done(d.verdict) && same(d.digest, abc));
+    d = qt_sha256_digest(NULL, 0);
+    CHECK(done(d.verdict) && same(d.digest, none));
+    CHECK(done(qt_sha256_digest(long_message, QT_LONGEST_MESSAGE).verdict));
+    d = qt_sha256_digest(long_message, sizeof long_message);
+    CHECK(refused(d.verdict, QT_LONG_MESSAGE) && same(d.digest, ZERO));
+}
+
+static void tags(void) {
+    static const uint8_t long_block[QT_LONGEST_MESSAGE + 1];
+    qt_digested t = qt_labels_tag((const uint8_t *)"abc", 3);
+    CHECK(done(t.verdict) && same(t.digest, digest_of("abc", 3)));
+    qt_matched m = qt_labels_matches(t.digest, (const uint8_t *)"abc", 3);
+    CHECK(done(m.verdict) && m.yes);
+    m = qt_labels_matches(t.digest, (const uint8_t *)"abd", 3);
+    CHECK(done(m.verdict) && !m.yes);
+    m = qt_labels_matches(t.digest, NULL, 0);
+    CHECK(done(m.verdict) && !m.yes);
+    t = qt_labels_tag(long_block, sizeof long_block);
+    CHECK(refused(t.verdict, QT_LONG_MESSAGE) && same(t.digest, ZERO));
+    m = qt_labels_matches(ZERO, long_block, sizeof long_block);
+    CHECK(refused(m.verdict, QT_LONG_MESSAGE) && !m.yes);
+}
+
+static void heights(void) {
+    CHECK(qt_labels_height(1) == 0);
+    CHECK(qt_labels_height(6) == 1);
+    CHECK(qt_labels_height(8) == 3);
+    CHECK(qt_labels_height(32768) == 15);
+    CHECK(qt_labels_height(0) == 15);
+}
+
+/* The store's check. */
+static void images(void) {
+    size_t size = fill_flat(0);
+    qt_metadata_answer a = qt_store_check(flat, size);
+    CHECK(done(a.verdict) && a.metadata.count == 0 && same(a.metadata.label, hex(empty_label)));
+    fill_five();
+    a = qt_store_check(five, sizeof five);
+    CHECK(done(a.verdict) && a.metadata.count == 5 && same(a.metadata.label, hex(five_label)));
+    a = qt_store_check(five, QT_IMAGE_SIZE(5) - 1);
+    CHECK(refused(a.verdict, QT_BAD_IMAGE) && a.metadata.count == 0 && same(a.metadata.label, ZERO));
+    CHECK(refused(qt_store_check(NULL, 0).verdict, QT_BAD_IMAGE));
+    five[7] = 16;
+    CHECK(refused(qt_store_check(five, sizeof five).verdict, QT_BAD_IMAGE));
+    fill_five();
+    five[0] = 2;
+    CHECK(refused(qt_store_check(five, sizeof five).verdict, QT_BAD_IMAGE));
+}
+
+static void shapes(void) {
+    static const uint64_t wanted[5] = {2, 3, 4, 3, 2};
+    uint64_t entries[6] = {0, 0, 0, 0, 0, 77};
+    fill_five();
+    qt_counted s = qt_shapes_shape(five, sizeof five, entries, 6);
+    CHECK(done(s.verdict) && s.count == 5);
+    CHECK(memcmp(entries, wanted, sizeof wanted) == 0 && entries[5] == 77);
+    entries[0] = 78;
+    s = qt_shapes_shape(five, sizeof five, entries, 4);
+    CHECK(refused(s.verdict, QT_NO_ROOM) && s.count == 0 && entries[0] == 78);
+    CHECK(refused(qt_shapes_shape(NULL, 0, NULL, 0).verdict, QT_BAD_IMAGE));
+    CHECK(done(qt_shapes_shape(flat, fill_flat(0), NULL, 0).verdict));
+}
+
+/* The store's proofs. */
+static void proofs(void) {
+    static const uint64_t wanted[6] = {1, 2, 3, 4, 3, 2};
+    uint8_t buffer[QT_LONGEST_PROOF + 2], before[sizeof buffer];
+    fill_five();
+    for (uint64_t p = 0; p <= 5; p += 1) {
+        memset(buffer, 0xA5, sizeof buffer);
+        memcpy(before, buffer, sizeof buffer);
+        qt_proved r = qt_store_prove(five, sizeof five, p, buffer, sizeof buffer, 2);
+        CHECK(done(r.verdict) && r.entries == wanted[p] && r.length == QT_PROOF_SIZE(wanted[p]));
+        CHECK(memcmp(buffer, before, 2) == 0 && buffer[2] == 1);
+        CHECK(memcmp(buffer + 2 + r.length, before + 2 + r.length, sizeof buffer - 2 - r.length) == 0);
+    }
+}
+
+static bool proof_refused(qt_proved r, uint32_t refusal) { return refused(r.verdict, refusal) && r.length == 0 && r.entries == 0; }
+
+static void refused_proofs(void) {
+    uint8_t buffer[QT_LONGEST_PROOF], before[sizeof buffer];
+    memset(buffer, 0xA5, sizeof buffer);
+    memcpy(before, buffer, sizeof buffer);
+    fill_five();
+    CHECK(proof_refused(qt_store_prove(NULL, 0, 0, buffer, sizeof buffer, 0), QT_BAD_IMAGE));
+    CHECK(proof_refused(qt_store_prove(five, sizeof five, 6, buffer, sizeof buffer, 0), QT_BAD_POSITION));
+    CHECK(proof_refused(qt_store_prove(five, sizeof five, UINT64_MAX, buffer, sizeof buffer, 0), QT_BAD_POSITION));
+    CHECK(proof_refused(qt_store_prove(five, sizeof five, 3, buffer, 228, 0), QT_NO_ROOM));
+    CHECK(proof_refused(qt_store_prove(five, sizeof five, 3, buffer, 229, 1), QT_NO_ROOM));
+    CHECK(proof_refused(qt_store_prove(five, sizeof five, 3, buffer, sizeof buffer, UINT64_MAX), QT_NO_ROOM));
+    CHECK(proof_refused(qt_store_prove(five, sizeof five, 3, NULL, 0, 0), QT_NO_ROOM));
+    size_t size = fill_flat(201);
+    CHECK(proof_refused(qt_store_prove(flat, size, 201, buffer, sizeof buffer, 0), QT_TOO_DEEP));
+    CHECK(memcmp(buffer, before, sizeof buffer) == 0);
+    qt_proved r = qt_store_prove(flat, size, 200, buffer, sizeof buffer, 0);
+    CHECK(done(r.verdict) && r.entries == QT_MOST_ENTRIES && r.length == QT_LONGEST_PROOF);
+}
+
+/* The store's edits: what they refuse, and that a refusal changes no byte. */
+static bool edit_refused(size_t length, qt_command k, uint32_t refusal) {
+    uint8_t before[FIVE_ROOM];
+    memcpy(before, five, sizeof five);
+    qt_counted r = qt_store_apply(five, length, k);
+    return refused(r.verdict, refusal) && r.count == 0 && memcmp(before, five, sizeof five) == 0;
+}
+
+static void refused_edits(void) {
+    static const uint32_t strange[3] = {4, 255, UINT32_MAX}, high[3] = {16, 256, UINT32_MAX};
+    fill_five();
+    CHECK(edit_refused(6, command(QT_READ, 1, 0, ZERO), QT_BAD_IMAGE));
+    CHECK(edit_refused(sizeof five, command(QT_READ, 0, 0, ZERO), QT_BAD_POSITION));
+    CHECK(edit_refused(sizeof five, command(QT_REPLACE, 6, 0, ZERO), QT_BAD_POSITION));
+    CHECK(edit_refused(sizeof five, command(QT_INSERT, 6, 16, ZERO), QT_BAD_POSITION));
+    CHECK(edit_refused(sizeof five, command(QT_DELETE, 0, 0, ZERO), QT_BAD_POSITION));
+    CHECK(edit_refused(QT_IMAGE_SIZE(6) - 1, command(QT_INSERT, 5, 0, ZERO), QT_NO_ROOM));
+    for (size_t i = 0; i < 3; i += 1) {
+        CHECK(edit_refused(sizeof five, command(strange[i], 1, 0, ZERO), QT_BAD_POSITION));
+        CHECK(edit_refused(6, command(strange[i], 1, 0, ZERO), QT_BAD_IMAGE));
+        CHECK(edit_refused(sizeof five, command(QT_INSERT, 1, high[i], ZERO), QT_BAD_HEIGHT));
+    }
+    fill_flat(QT_MOST_BLOCKS);
+    CHECK(refused(qt_store_apply(flat, sizeof flat, command(QT_INSERT, 0, 0, ZERO)).verdict, QT_FULL));
+    fill_flat(QT_MOST_BLOCKS - 1);
+    CHECK(qt_store_apply(flat, sizeof flat, command(QT_INSERT, 0, 0, ZERO)).count == QT_MOST_BLOCKS);
+}
+
+/* Saved metadata. */
+static void saved_metadata(void) {
+    qt_metadata m = {.count = 5, .label = hex(five_label)};
+    qt_saved s = qt_gateway_save(m);
+    static const uint8_t front[7] = {1, 0, 36, 0, 0, 0, 5};
+    CHECK(done(s.verdict) && memcmp(s.bytes, front, 7) == 0 && memcmp(s.bytes + 7, m.label.bytes, 32) == 0);
+    qt_metadata_answer l = qt_gateway_load(s.bytes, sizeof s.bytes);
+    CHECK(done(l.verdict) && same_metadata(l.metadata, m));
+    l = qt_gateway_load(s.bytes, sizeof s.bytes - 1);
+    CHECK(refused(l.verdict, QT_BAD_METADATA) && l.metadata.count == 0 && same(l.metadata.label, ZERO));
+    CHECK(refused(qt_gateway_load(NULL, 0).verdict, QT_BAD_METADATA));
+    s.bytes[0] = 2;
+    CHECK(refused(qt_gateway_load(s.bytes, sizeof s.bytes).verdict, QT_BAD_METADATA));
+    m.count = QT_MOST_BLOCKS;
+    CHECK(done(qt_gateway_save(m).verdict));
+    m.count = QT_MOST_BLOCKS + 1;
+    static const uint8_t zeros[QT_SAVED_SIZE];
+    s = qt_gateway_save(m);
+    CHECK(refused(s.verdict, QT_BAD_METADATA) && memcmp(s.bytes, zeros, sizeof zeros) == 0);
+    m.count = (uint64_t)1 << 32;
+    CHECK(refused(qt_gateway_save(m).verdict, QT_BAD_METADATA));
+}
+
+/* A command at the row of five with the store's own proofs: the gateway accepts it, reports the tag, and predicts what the store's check
+ * answers after the store's edit. */
+typedef struct {
+    uint8_t bytes[QT_LONGEST_PROOF];
+    size_t length;
+} proof;
+
+static proof proof_at(uint64_t p) {
+    proof s;
+    s.length = qt_store_prove(five, sizeof five, p, s.bytes, sizeof s.bytes, 0).length;
+    return s;
+}
+
+static qt_answer asked(qt_metadata held, qt_command k, const proof *first, const proof *second) {
+    return qt_gateway_check(held, k, first->bytes, first->length, second->bytes, second->length);
+}
+
+static void accepted(qt_command k, qt_digest reported, uint64_t count) {
+    fill_five();
+    qt_metadata held = qt_store_check(five, sizeof five).metadata;
+    proof first = proof_at(k.operation == QT_DELETE ? k.position - 1 : k.position), second = proof_at(k.position);
+    qt_answer a = asked(held, k, &first, &second);
+    CHECK(done(a.verdict) && same(a.tag, reported));
+    qt_counted applied = qt_store_apply(five, sizeof five, k);
+    CHECK(done(applied.verdict) && applied.count == count);
+    CHECK(same_metadata(a.metadata, qt_store_check(five, sizeof five).metadata));
+}
+
+static void commands(void) {
+    qt_digest x = digest_of("X", 1);
+    for (uint64_t p = 0; p <= 5; p += 1) {
+        qt_digest reported = p == 0 ? ZERO : letter(p - 1);
+        if (p > 0) {
+            accepted(command(QT_READ, p, UINT32_MAX, x), reported, 5);
+            accepted(command(QT_REPLACE, p, 16, x), reported, 5);
+            accepted(command(QT_DELETE, p, 16, x), reported, 4);
+        }
+        for (uint32_t h = 0; h <= QT_MOST_HEIGHT; h += 1) accepted(command(QT_INSERT, p, h, x), reported, 6);
+    }
+}
+
+/* What the gateway refuses before it looks at a proof. */
+static void answer_refused(qt_metadata held, qt_command k, const proof *first, const proof *second, uint32_t refusal, uint32_t which,
+                           int line) {
+    qt_answer a = asked(held, k, first, second);
+    check(is(a.verdict, refusal, which), "the refusal and the proof it speaks of", line);
+    check(same(a.tag, ZERO), "a zero tag", line);
+    check(same_metadata(a.metadata, held), "the metadata given", line);
+}
+
+#define REFUSED(held, k, first, second, refusal, which) answer_refused(held, k, first, second, refusal, which, __LINE__)
+
+static void refused_openings(void) {
+    fill_five();
+    qt_metadata held = qt_store_check(five, sizeof five).metadata, over = held, full = held;
+    over.count = QT_MOST_BLOCKS + 1;
+    full.count = QT_MOST_BLOCKS;
+    proof first = proof_at(1);
+    REFUSED(over, command(7, 0, 16, ZERO), &first, &first, QT_BAD_METADATA, QT_NO_PROOF);
+    REFUSED(held, command(QT_READ, 0, 0, ZERO), &first, &first, QT_BAD_POSITION, QT_NO_PROOF);
+    REFUSED(held, command(QT_INSERT, 6, 16, ZERO), &first, &first, QT_BAD_POSITION, QT_NO_PROOF);
+    REFUSED(held, command(4, 1, 0, ZERO), &first, &first, QT_BAD_POSITION, QT_NO_PROOF);
+    REFUSED(held, command(UINT32_MAX, 1, 0, ZERO), &first, &first, QT_BAD_POSITION, QT_NO_PROOF);
+    REFUSED(held, command(QT_INSERT, 1, 16, ZERO), &first, &first, QT_BAD_HEIGHT, QT_NO_PROOF);
+    REFUSED(held, command(QT_INSERT, 1, 256, ZERO), &first, &first, QT_BAD_HEIGHT, QT_NO_PROOF);
+    REFUSED(full, command(QT_INSERT, 1, 15, ZERO), &first, &first, QT_FULL, QT_NO_PROOF);
+}
+
+/* What it refuses of a proof: 7, 8 and 9, on the first and on the second. */
+static void refused_checks(void) {
+    fill_five();
+    qt_metadata held = qt_store_check(five, sizeof five).metadata;
+    proof before = proof_at(2), at = proof_at(3), none = {.length = 0}, false_tag = at;
+    false_tag.bytes[at.length - 74 + 6] ^= 1; /* in the stop record, after kind, level and own */
+    qt_command read = command(QT_READ, 3, 0, ZERO), del = command(QT_DELETE, 3, 0, ZERO);
+    REFUSED(held, read, &none, &at, QT_BAD_PROOF, QT_FIRST);
+    REFUSED(held, read, &before, &at, QT_WRONG_POSITION, QT_FIRST);
+    REFUSED(held, read, &false_tag, &at, QT_WRONG_LABEL, QT_FIRST);
+    REFUSED(held, del, &none, &none, QT_BAD_PROOF, QT_FIRST);
+    REFUSED(held, del, &at, &none, QT_WRONG_POSITION, QT_FIRST);
+    REFUSED(held, del, &before, &none, QT_BAD_PROOF, QT_SECOND);
+    REFUSED(held, del, &before, &before, QT_WRONG_POSITION, QT_SECOND);
+    REFUSED(held, del, &before, &false_tag, QT_WRONG_LABEL, QT_SECOND);
+    qt_answer a = qt_gateway_check(held, read, NULL, 0, NULL, 0);
+    CHECK(is(a.verdict, QT_BAD_PROOF, QT_FIRST));
+    a = qt_gateway_check(held, read, at.bytes, at.length, NULL, 0);
+    CHECK(done(a.verdict) && same(a.tag, letter(2)));
+}
+
+/* 10 comes where no archive has the metadata held: here a head, at its right a second head, at its right a block. The first proof stops at
+ * the first head, and the second goes right twice. */
+static qt_digest leaf_label(const void *third, size_t third_length, const void *right, size_t right_length) {
+    static const uint8_t level[1] = {0}, rank[4] = {0, 0, 0, 1};
+    qt_digest four[4] = {digest_of(level, 1), digest_of(rank, 4), digest_of(third, third_length), digest_of(right, right_length)};
+    return digest_of(four, sizeof four);
+}
+
+static void put_entry(proof *s, uint8_t kind, uint8_t number, qt_digest bytes) {
+    uint8_t entry[6] = {kind, 0, 0, 0, 0, number};
+    memcpy(s->bytes + s->length, entry, 6);
+    memcpy(s->bytes + s->length + 6, bytes.bytes, 32);
+    s->length += 38;
+}
+
+static void put_stop(proof *s, uint8_t own, qt_digest tag, uint8_t rank, qt_digest label) {
+    uint8_t right_rank[4] = {0, 0, 0, rank};
+    put_entry(s, 2, own, tag);
+    memcpy(s->bytes + s->length, right_rank, 4);
+    memcpy(s->bytes + s->length + 4, label.bytes, 32);
+    s->length += 36;
+    s->bytes[0] = 1;
+    s->bytes[1] = (uint8_t)((s->length - 3) >> 8);
+    s->bytes[2] = (uint8_t)(s->length - 3);
+}
+
+static void refused_neighbours(void) {
+    static const uint8_t nothing[1] = {0};
+    qt_digest tag = letter(0);
+    qt_digest block = leaf_label(tag.bytes, 32, nothing, 1);
+    qt_digest inner = leaf_label(nothing, 1, block.bytes, 32);
+    qt_metadata held = {.count = 1, .label = leaf_label(nothing, 1, inner.bytes, 32)};
+    proof first = {.length = 3}, second = {.length = 3};
+    put_stop(&first, 0, ZERO, 1, inner);
+    put_entry(&second, 1, 0, ZERO);
+    put_entry(&second, 1, 0, ZERO);
+    put_stop(&second, 1, tag, 0, ZERO);
+    REFUSED(held, command(QT_DELETE, 1, 0, ZERO), &first, &second, QT_NOT_NEIGHBOURS, QT_NO_PROOF);
+    qt_answer a = asked(held, command(QT_READ, 1, 0, ZERO), &second, &first);
+    CHECK(done(a.verdict) && same(a.tag, tag) && same_metadata(a.metadata, held));
+}
+
+int main(void) {
+    digests();
+    tags();
+    heights();
+    images();
+    shapes();
+    proofs();
+    refused_proofs();
+    refused_edits();
+    saved_metadata();
+    commands();
+    refused_openings();
+    refused_checks();
+    refused_neighbours();
+    printf("%d passed, %d failed\n", passed, failed);
+    return failed != 0;
+}
