@@ -1,5 +1,5 @@
-# `make demo` tells what the product does, `make test` runs the gate. Both do all their own set-up.
-.PHONY: demo test
+# `make demo` tells what the product does, `make test` runs the gate. Both do all their own set-up. `make bench` measures.
+.PHONY: demo test bench
 
 # The first run proves the crates below the demo before it is built, which takes some minutes.
 demo:
@@ -8,3 +8,7 @@ demo:
 
 test:
 	@.ci/run
+
+# Instructions, time and stack of every call, beside portable C, sha2 and OpenSSL. docs/BENCHMARKS.md has the last tables.
+bench:
+	@bench/run

@@ -1,0 +1,74 @@
+// calls CALL IMAGE POSITION HEIGHT ENTRIES HOW TURNS: one call of the proved library on an archive image in a file. The proofs that the
+// gateway's calls take are made before the turns begin, and every answer is looked at once: a refusal, a proof that has not ENTRIES
+// entries, or metadata other than that of the edited image, ends the program with status 3.
+#include "../include/quaythistle.h"
+#include "measure.h"
+enum { COPIES = 4 };
+static uint8_t images[COPIES][QT_IMAGE_SIZE(QT_MOST_BLOCKS + 1)], first[QT_LONGEST_PROOF], second[QT_LONGEST_PROOF];
+static uint8_t block[QT_LONGEST_MESSAGE], saved[QT_SAVED_SIZE];
+static uint64_t shape[QT_MOST_BLOCKS];
+static size_t size, first_size, second_size;
+static qt_metadata held;
+static qt_command command;
+static int copy;
+
+// One turn for each export.
+static void nothing(void *a) { kept = 0, (void)a; }
+static void digest(void *a) { kept = qt_sha256_digest(block, sizeof block).verdict.refusal, (void)a; }
+static void tag(void *a) { kept = qt_labels_tag(block, sizeof block).verdict.refusal, (void)a; }
+static void matches(void *a) { kept = qt_labels_matches(held.label, block, sizeof block).verdict.refusal, (void)a; }
+static void height(void *a) { kept = qt_labels_height(32) == QT_MOST_HEIGHT, (void)a; }
+static void check(void *a) { kept = qt_store_check(images[0], size).verdict.refusal, (void)a; }
+static void prove(void *a) { kept = qt_store_prove(images[0], size, command.position, first, sizeof first, 0).verdict.refusal, (void)a; }
+static void gate(void *a) { kept = qt_gateway_check(held, command, first, first_size, second, second_size).verdict.refusal, (void)a; }
+static void save(void *a) { kept = qt_gateway_save(held).verdict.refusal, (void)a; }
+static void load(void *a) { kept = qt_gateway_load(saved, sizeof saved).verdict.refusal, (void)a; }
+static void shapes(void *a) { kept = qt_shapes_shape(images[0], size, shape, QT_MOST_BLOCKS).verdict.refusal, (void)a; }
+// An edit finds the image as it was: each turn has a copy of its own.
+static void apply(void *a) { kept = qt_store_apply(images[copy++ % COPIES], sizeof images[0], command).verdict.refusal, (void)a; }
+
+static const struct { const char *name; void (*turn)(void *); int operation; } calls[] = {
+    {"nothing", nothing, 0}, {"digest", digest, 0}, {"tag", tag, 0}, {"matches", matches, 0}, {"height", height, 0},
+    {"check", check, 0}, {"prove", prove, 0}, {"shape", shapes, 0}, {"save", save, 0}, {"load", load, 0},
+    {"read", gate, QT_READ}, {"replace", gate, QT_REPLACE}, {"insert", gate, QT_INSERT}, {"delete", gate, QT_DELETE},
+    {"apply-read", apply, QT_READ}, {"apply-replace", apply, QT_REPLACE}, {"apply-insert", apply, QT_INSERT}, {"apply-delete", apply, QT_DELETE}};
+
+static void expect(bool yes) { if (!yes) exit(3); }
+
+static size_t proof(uint64_t position, uint8_t *to, uint64_t entries) {
+    qt_proved p = qt_store_prove(images[0], size, position, to, QT_LONGEST_PROOF, 0);
+    expect(!p.verdict.refusal && p.entries == entries);
+    return p.length;
+}
+
+// What the gateway holds, its proofs ("K" entries, for Delete "K/L"), and its answer against the metadata of the edited image.
+static void ready_gateway(const char *entries) {
+    char *next;
+    uint64_t k = strtoul(entries, &next, 10);
+    int deletes = command.operation == QT_DELETE;
+    held = qt_store_check(images[0], size).metadata;
+    first_size = proof(command.position - deletes, first, k);
+    if (deletes) second_size = proof(command.position, second, strtoul(next + 1, 0, 10));
+    qt_answer a = qt_gateway_check(held, command, first, first_size, second, second_size);
+    expect(!a.verdict.refusal && !qt_store_apply(images[1], sizeof images[1], command).verdict.refusal);
+    qt_metadata edited = qt_store_check(images[1], sizeof images[1]).metadata;
+    expect(!memcmp(&a.metadata, &edited, sizeof edited));
+}
+
+int main(int n, char **v) {
+    FILE *f = n == 8 ? fopen(v[2], "rb") : 0;
+    if (!f || !(size = fread(images[0], 1, sizeof images[0], f))) return 2;
+    for (int i = 1; i < COPIES; i++) memcpy(images[i], images[0], size);
+    command.position = atol(v[3]), command.height = atol(v[4]);
+    memset(command.tag.bytes, 7, sizeof command.tag.bytes);
+    for (size_t i = 0; i < sizeof calls / sizeof *calls; i++) {
+        if (strcmp(calls[i].name, v[1])) continue;
+        command.operation = calls[i].operation;
+        if (calls[i].turn == gate) ready_gateway(v[5]);
+        if (calls[i].turn == prove) proof(command.position, first, atol(v[5]));
+        if (calls[i].turn == load) memcpy(saved, qt_gateway_save(held).bytes, sizeof saved);
+        int status = measure(v[6], v[7], calls[i].turn, 0);
+        return status ? status : kept ? 3 : 0;
+    }
+    return 2;
+}

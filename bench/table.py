@@ -1,0 +1,340 @@
+"""table.py TARGET LINE..: the tables of the benchmark, in Markdown. TARGET is the folder with the programs that bench/run made; the LINEs,
+on the machine, go above the tables. A figure is a run of two turns less a run of one, so that start-up drops out."""
+import glob
+import hashlib
+import os
+import re
+import subprocess
+import sys
+
+import rows
+import stackuse
+
+TARGET, MACHINE = sys.argv[1], sys.argv[2:]
+LIBRARY = "target/staticlib/libquaythistle.a"
+NATIVE = os.uname().machine == "x86_64"
+CALLGRIND = NATIVE and os.environ.get("COUNTER") != "plugin"
+METHOD = (
+    "instructions executed, `Ir` of `valgrind --tool=callgrind`"
+    if CALLGRIND
+    else "instructions executed, counted by the emulator's plugin `bench/icount.c` (`qemu-x86_64 -cpu max`)"
+)
+MOST = 4096
+
+
+# Running a measured program.
+def run(words, env):
+    done = subprocess.run(words, capture_output=True, text=True, env={"PATH": os.environ["PATH"], **(env or {})})
+    if done.returncode:
+        sys.exit(f"{' '.join(words)}: status {done.returncode}\n{done.stderr}")
+    return done
+
+
+def total(words, env):
+    if CALLGRIND:
+        done = run(["valgrind", "--tool=callgrind", "--callgrind-out-file=/dev/null"] + words, env)
+        return int(re.search(r"Collected : (\d+)", done.stderr)[1])
+    done = run(["qemu-x86_64", "-cpu", "max", "-plugin", f"{TARGET}/icount.so"] + words, env)
+    return int(re.search(r"total (\d+)", done.stderr)[1])
+
+
+def count(program, *words, env=None):
+    """The instructions of one turn."""
+    command = [f"{TARGET}/{program}", *map(str, words), "count"]
+    return total(command + ["2"], env) - total(command + ["1"], env)
+
+
+def ask(how, program, *words, env=None):
+    emulator = [] if NATIVE else ["qemu-x86_64", "-cpu", "max"]
+    return run(emulator + [f"{TARGET}/{program}", *map(str, words), how, "0"], env).stdout.strip()
+
+
+def nanoseconds(program, *words, env=None):
+    return float(ask("time", program, *words, env=env))
+
+
+def stack(turn, program, *words, env=None):
+    """The bytes of stack that a call writes: those of its turn, less the turn's own frame."""
+    own = stackuse.bounds([f"{TARGET}/{program}.o"], [turn])[turn][0]
+    return int(ask("stack", program, *words, env=env)) - own
+
+
+def image(name, heights):
+    path = f"{TARGET}/{name}.image"
+    with open(path, "wb") as f:
+        f.write(rows.image(heights))
+    return path
+
+
+# Printing.
+def number(x):
+    return "–" if x is None else f"{x:,.0f}"
+
+
+def line(cells):
+    print("| " + " | ".join(cells) + " |")
+
+
+def heading(title, text, cells):
+    if title:
+        print(f"\n## {title}\n")
+    if text:
+        print(text + "\n")
+    line(cells)
+    line(["---"] * len(cells))
+
+
+# Digest. OpenSSL chooses its code by what the processor has; a mask hides that, so that each of its codes can be run.
+DIGESTS = {
+    "proved": "`sha256::digest`, through the C interface",
+    "gcc-loop": "portable C, gcc -O3, loop",
+    "gcc-unrolled": "portable C, gcc -O3, eight rounds to a turn",
+    "clang-loop": "portable C, clang -O3, loop",
+    "clang-unrolled": "portable C, clang -O3, eight rounds to a turn",
+    "gcc-nested": "the same in the proved code's forms, gcc -O3",
+    "clang-nested": "the same in the proved code's forms, clang -O3",
+    "sha2": "Rust's `sha2`, soft code",
+}
+OPENSSL = {
+    "scalar": {"OPENSSL_ia32cap": "~0x1000020000000000:~0x20000128"},
+    "AVX2": {"OPENSSL_ia32cap": ":~0x20000000"},
+}
+
+
+class Digest:
+    def __init__(self, program, env=None, counted=True):
+        self.checked(program, env)
+        lengths = (1, 4, 32, 128, MOST - 64, MOST) if counted else ()
+        self.count = {n: count(program, n, env=env) for n in lengths}
+        self.block = self.count[MOST] - self.count[MOST - 64] if counted else None
+        self.times = [nanoseconds(program, MOST, env=env) / (MOST // 64 + 1), nanoseconds(program, 32, env=env)] if NATIVE else [None, None]
+        self.stack = stack("turn", program, MOST, env=env)
+
+    @staticmethod
+    def checked(program, env):
+        message = bytes(i % 256 for i in range(MOST))
+        for n in (0, 1, 32, 55, 56, 63, 64, 128, MOST):
+            if ask("show", program, n, env=env) != hashlib.sha256(message[:n]).hexdigest():
+                sys.exit(f"{program}: a wrong digest of {n} bytes")
+
+    def row(self, name, best):
+        ratio = lambda x, y: f"{x:,.0f} ({x / y:.2f})" if x else "–"
+        mine = [self.block, self.count.get(32), *self.times]
+        block, short, *times = map(ratio, mine, best)
+        line([name, block, short, number(self.count.get(128)), number(self.count.get(MOST)), *times, number(self.stack)])
+
+
+def digests():
+    found = {os.path.basename(p)[len("digest-"):] for p in glob.glob(f"{TARGET}/digest-*") if not p.endswith(".o")}
+    portable = {k: Digest(f"digest-{k}") for k in DIGESTS if k in found}
+    others = [d for k, d in portable.items() if k != "proved"]
+    best = [min(d.block for d in others), min(d.count[32] for d in others)] + [min(d.times[i] for d in others) if NATIVE else None for i in (0, 1)]
+    heading("Digest", "In brackets: the ratio to the best of the portable ones, column by column. Per block: 4,096 bytes less 4,032. Nanoseconds per block: those\n"
+            "of 4,096 bytes, by their 65 blocks. Stack: the bytes that a call writes. OpenSSL's assembly stands here as a class of its own.",
+            ["", "per 64-byte block", "32 bytes", "128 bytes", "4,096 bytes", "ns per block", "ns for 32 bytes", "stack"])
+    for k, d in portable.items():
+        d.row(DIGESTS[k], best)
+    if "openssl" in found:
+        for k, mask in OPENSSL.items():
+            Digest("digest-openssl", mask).row("OpenSSL, " + k, best)
+        if NATIVE and "sha_ni" in open("/proc/cpuinfo").read():
+            Digest("digest-openssl", counted=False).row("OpenSSL, SHA instructions (the counter does not know them)", best)
+    for k in {"sha2", "openssl"} - found:
+        print(f"\n`{k}` could not be had on this machine: not measured.")
+    return portable["proved"]
+
+
+# The bill of a call: the 64-byte blocks that its definition hashes, at what a block of a label's messages takes.
+class Bill:
+    def __init__(self, digest):
+        c = digest.count
+        self.label = c[1] + c[4] + 2 * c[32] + c[128]
+        self.unit = self.label / rows.BLOCKS
+        self.block = digest.block
+        self.worst = {}
+
+    def ratios(self, instructions, labels):
+        blocks = labels * rows.BLOCKS
+        return instructions / (blocks * self.unit), instructions / (blocks * self.block)
+
+    def cell(self, call, instructions, labels):
+        if not labels:
+            return f"{instructions:,} (no label)"
+        ratios = self.ratios(instructions, labels)
+        self.worst[call] = max(self.worst.get(call, ratios), ratios)
+        return "{:,} ({:.3f}; {:.3f})".format(instructions, *ratios)
+
+    def slope(self, ends):
+        """From the last figure but one to the last, of (k or n, instructions, labels)."""
+        (k, a, x), (l, b, y) = ends[-2:]
+        return "{:,.0f} ({:.3f}; {:.3f})".format((b - a) / (l - k), *self.ratios(b - a, y - x))
+
+    def say(self):
+        print("\n## What the calls are measured against\n")
+        print(f"A label hashes a level (1 byte), a rank (4), two messages of 32 and one of 128: {rows.BLOCKS} blocks of 64 bytes. Those five digests, each called")
+        print(f"through the C interface, take {self.label:,} instructions: **{self.unit:,.1f}** for each block of such short messages, against **{self.block:,}** for a")
+        print("compression alone (the digest's figure per block). A cell has the call's instructions and, in brackets, two ratios: to the blocks that")
+        print(f"its definition hashes at {self.unit:,.1f} each, its bill; and to the same blocks at {self.block:,} each.")
+
+    def say_worst(self):
+        heading("Worst ratios", None, ["call", "to the bill", "to the compressions alone"])
+        for call, ratios in self.worst.items():
+            line([call] + [f"{r:.3f}" for r in ratios])
+
+
+# The gateway's calls.
+COMMANDS = [
+    ("Read", "read", 0),
+    ("Replace", "replace", 0),
+    ("Insert, height 0", "insert", 0),
+    ("Insert, height 5", "insert", 5),
+    ("Insert, height 15", "insert", 15),
+    ("Delete", "delete", 0),
+]
+GATEWAY = {
+    "all 0": {k: (rows.flat(k), k) for k in (0, 1, 16, 100, 200)},
+    "of every level": {k: rows.stairs(k) for k in (16, 100, 200)},
+    "drawn, n = 256": {len(rows.path(rows.drawn(256), 128)[0]): (rows.drawn(256), 128)},
+}
+
+
+def gateway_case(call, heights, p, height):
+    """What calls.c is asked, and the labels that the call's definition hashes."""
+    entries = rows.path(heights, p)[0]
+    k, labels = str(len(entries)), 0
+    if call == "delete":
+        before = rows.path(heights, p - 1)[0]
+        k, labels = f"{len(before)}/{k}", rows.delete(before, entries)
+    else:
+        labels = {"read": rows.read, "replace": rows.replace}.get(call, lambda n: rows.insert(n, height))(len(entries))
+    return (call, image(f"row-{len(heights)}-{sum(heights)}", heights), p, height, k), labels
+
+
+def gateway(bill):
+    text = "By k, the entries of the proof (Delete: of its second one). A path to a block has at least one entry, so k = 0 is Insert's alone."
+    for kind, cases in GATEWAY.items():
+        many = len(cases) > 1
+        heading(text and "Gateway", text, [f"heights {kind}"] + [f"k = {k}" for k in cases] + ["slope over k"] * many)
+        text = None
+        for name, call, height in COMMANDS:
+            cells, ends = [], []
+            for k, (heights, p) in cases.items():
+                if k == 0 and call != "insert":
+                    cells.append("–")
+                    continue
+                words, labels = gateway_case(call, heights, p, height)
+                ends.append((k, count("calls", *words), labels))
+                cells.append(bill.cell(f"gateway, {name}", *ends[-1][1:]))
+            line([name] + cells + ([bill.slope(ends)] if many else []))
+        print()
+
+
+# The store's calls.
+SIZES = (0, 16, 256, MOST)
+STORE = {"drawn": (rows.drawn, lambda n: n // 2), "all 0": (rows.flat, lambda n: min(n // 2, 100))}
+
+
+def store_case(call, kind, n):
+    row, place = STORE[kind]
+    heights, p = row(n), place(n)
+    labels = rows.check(heights) if call == "check" else rows.prove(heights, p)
+    return (call, image(f"row-{n}-{sum(heights)}", heights), p, 0, len(rows.path(heights, p)[0])), labels
+
+
+def store(bill):
+    text = "The position proved is n / 2, and at most 100 where all heights are 0. Slope: for each block from n = 256 to n = 4,096."
+    for kind in STORE:
+        heading(text and "Store", text, [f"heights {kind}"] + [f"n = {n:,}" for n in SIZES] + ["slope over n"])
+        text = None
+        for call in ("check", "prove"):
+            ends = []
+            for n in SIZES:
+                words, labels = store_case(call, kind, n)
+                ends.append((n, count("calls", *words), labels))
+            line([call] + [bill.cell(f"store, {call}", *e[1:]) for e in ends] + [bill.slope(ends)])
+        print()
+
+
+def apply():
+    heading("Apply", "Heights drawn; nothing is hashed. Front: position 1 (Insert: after 0), so that every other record moves; back: the last position. Insert is\n"
+            "taken at n = 4,095, since 4,096 is full.", ["", "front", "back", "for each height looked at", "for each byte moved"])
+    for name, n in (("read", MOST), ("replace", MOST), ("insert", MOST - 1), ("delete", MOST)):
+        file = image(f"row-{n}-drawn", rows.drawn(n))
+        front, back = (count("calls", "apply-" + name, file, p, 3, 0) for p in ((0, n) if name == "insert" else (1, n)))
+        moved = {"insert": 33 * n, "delete": 33 * (n - 1)}.get(name)
+        line([name.capitalize(), number(front), number(back), f"{back / n:.2f}", f"{(front - back) / moved:.3f}" if moved else "–"])
+
+
+SHORT = [
+    ("`labels::tag` of 4,096 bytes", "tag"),
+    ("`labels::matches` of 4,096 bytes", "matches"),
+    ("`labels::height`", "height"),
+    ("`gateway::saved::save`", "save"),
+    ("`gateway::saved::load`", "load"),
+]
+
+
+def short():
+    empty = image("row-0-0", [])
+    none = count("calls", "nothing", empty, 0, 0, 0)
+    heading("Other calls", f"Less the {none} instructions of a turn that calls nothing.", ["", "instructions"])
+    for name, call in SHORT:
+        line([name, number(count("calls", call, empty, 0, 0, 0) - none)])
+
+
+# The export, the calls that its stack is painted by, and their turn in calls.c.
+STACKS = [
+    ("qt_sha256_digest", ["digest"], "digest"),
+    ("qt_labels_tag", ["tag"], "tag"),
+    ("qt_labels_matches", ["matches"], "matches"),
+    ("qt_labels_height", ["height"], "height"),
+    ("qt_store_check", ["check"], "check"),
+    ("qt_store_prove", ["prove"], "prove"),
+    ("qt_store_apply", ["apply-read", "apply-replace", "apply-insert", "apply-delete"], "apply"),
+    ("qt_shapes_shape", ["shape"], "shapes"),
+    ("qt_gateway_check", ["read", "replace", "insert", "delete"], "gate"),
+    ("qt_gateway_save", ["save"], "save"),
+    ("qt_gateway_load", ["load"], "load"),
+]
+
+
+def stacks():
+    heading("Stack", "In bytes, with the return address. Bound: the dearest way through the code that was compiled, without what memcpy and memmove take.\n"
+            "Written: by painting, on a row of 200 columns of every level.", ["call", "bound", "written"])
+    bound = stackuse.bounds([LIBRARY], [name for name, _, _ in STACKS])
+    heights, p = rows.stairs(200)
+    file, k = image("stack", heights), [len(rows.path(heights, q)[0]) for q in (p - 1, p)]
+    for name, calls, turn in STACKS:
+        deep = [stack(turn, "calls", c, file, p, 5, f"{k[0]}/{k[1]}" if c == "delete" else k[1]) for c in calls]
+        line([f"`{name}`", number(bound[name][1]), number(max(deep))])
+
+
+def times():
+    heading("Time", "Microseconds of processor time, natively: the least of 150 runs.", ["", "k = 16", "k = 200"])
+    for name, call, height in COMMANDS:
+        cases = [gateway_case(call, *rows.stairs(k), height)[0] for k in (16, 200)]
+        line([f"gateway, {name}"] + [f"{nanoseconds('calls', *words) / 1000:,.0f}" for words in cases])
+    print()
+    heading(None, None, ["", "n = 256", "n = 4,096"])
+    for call in ("check", "prove"):
+        cases = [store_case(call, "drawn", n)[0] for n in (256, MOST)]
+        line([f"store, {call}"] + [f"{nanoseconds('calls', *words) / 1000:,.0f}" for words in cases])
+
+
+def main():
+    for text in MACHINE + [f"Method: {METHOD}; a run of two turns less a run of one." + " Time: processor time, natively, the least of 150 runs." * NATIVE]:
+        print("- " + text)
+    digest = digests()
+    bill = Bill(digest)
+    bill.say()
+    gateway(bill)
+    store(bill)
+    bill.say_worst()
+    apply()
+    short()
+    stacks()
+    if NATIVE:
+        times()
+
+
+main()
