@@ -51,9 +51,9 @@ def frame(name, code, places):
     body = code[name]
     at = {a: k for k, (a, _, _) in enumerate(body)}
     blocks = [k + 1 for k, (_, text, _) in enumerate(body[:-1]) if re.match(r"jmp|ret|ud2", text)]
-    deepest, calls, seen, todo = 8, [], set(), [(0, 8, None)]
-    while todo:
-        k, depth, probe = todo.pop()
+    deepest, calls, seen, pending = 8, [], set(), [(0, 8, None)]
+    while pending:
+        k, depth, probe = pending.pop()
         while k < len(body) and k not in seen:
             seen.add(k)
             _, text, symbol = body[k]
@@ -69,13 +69,13 @@ def frame(name, code, places):
             elif op == "ret" or op.startswith("ud2"):
                 break
             elif op == "jmp" and "*%" in text:
-                todo += [(i, depth, probe) for i in blocks if i not in seen]
+                pending += [(i, depth, probe) for i in blocks if i not in seen]
                 break
             elif op == "jmp" and (symbol or not inside):
                 calls.append((depth - 8, callee(text, symbol, places)))
                 break
             elif inside:
-                todo.append((at[int(jump[1], 16)], depth, probe))
+                pending.append((at[int(jump[1], 16)], depth, probe))
                 if op == "jmp":
                     break
     return deepest, calls
