@@ -26,7 +26,7 @@ zeros-least n k e = omega arith
 
 pub padded-length : (m : List ℕ) → length (padded m) ≡ blocks (length m) * 64
 unfolding padded padding
-padded-length m = simp (length-append, length-replicate, length-be) (omega arith)
+padded-length m = simp (length-append, length-replicate) (omega arith)
 
 -- a number below 2 ^ 32 in eight bytes
 short : (l : ℕ) → l < 2 ^ 32 → be 8 l ≡ replicate 4 0 ++ be 4 l

@@ -37,6 +37,11 @@ hashed-more s p v x i e f = rw add-one (cc (lent-block p i))
 pub hashed-whole : (s p v : List ℕ) (i n : ℕ) → i ≤ n → n ≤ i → v ≡ hashed s p i → v ≡ hashed s p n
 hashed-whole s p v i n h k e = let z : i ≡ n = omega arith in rw z at e
 
+-- no block
+pub hashed-none : (s p : List ℕ) → length p < 64 → s ≡ hashed s p (length p / 64)
+unfolding hashed
+hashed-none s p h = let e : length p / 64 ≡ 0 = omega arith in rw e
+
 -- the blocks of a front are those of the whole
 block-front : (m z : List ℕ) (i : ℕ) → suc i * 64 ≤ length m → block (m ++ z) i ≡ block m i
 unfolding part

@@ -126,7 +126,7 @@ fn compress<'a>(k: &'a [u32; 64], s: [u32; 8], b: &'a [u8]) -> [u32; 8]
 }
 
 // 6.2.2: the whole blocks of b, one after the other. What is left of b is not read.
-fn absorb<'a>(k: &'a [u32; 64], start: [u32; 8], b: &'a [u8]) -> [u32; 8]
+fn each_block<'a>(k: &'a [u32; 64], start: [u32; 8], b: &'a [u8]) -> [u32; 8]
     requires { ⌜ now k ≡ constants ⌝ }
     ensures { λ r. ⌜ r ≡ hashed start (now (b .entry)) (length (now (b .entry)) / 64) ⌝ }
 {
@@ -138,6 +138,17 @@ fn absorb<'a>(k: &'a [u32; 64], start: [u32; 8], b: &'a [u8]) -> [u32; 8]
         s = next;
     }
     s
+}
+
+// The same, and no pass is entered for a message without a whole block, as nearly all are that a label hashes.
+fn absorb<'a>(k: &'a [u32; 64], start: [u32; 8], b: &'a [u8]) -> [u32; 8]
+    requires { ⌜ now k ≡ constants ⌝ }
+    ensures { λ r. ⌜ r ≡ hashed start (now (b .entry)) (length (now (b .entry)) / 64) ⌝ }
+{
+    if b.len() < 64 {
+        return start;
+    }
+    each_block(k, start, b)
 }
 
 // How many blocks a message of n bytes has when padded.
@@ -172,7 +183,7 @@ fn hash(m: &[u8]) -> [u32; 8]
     let s = absorb(&k, tables::INITIAL, m);
     let mut t = [0u8; 128];
     let end = end_blocks(&mut t, m);
-    absorb(&k, s, &t[0..end])
+    each_block(&k, s, &t[0..end])
 }
 
 // The word as a wider number.

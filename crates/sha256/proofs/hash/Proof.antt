@@ -12,8 +12,8 @@ absorb-requires c κs = search needs
 end-blocks-requires : tie.Need-end-blocks-requires
 end-blocks-requires c κs = search needs
 
-absorb-requires-2 : tie.Need-absorb-requires-2
-absorb-requires-2 c κs = search needs
+each-block-requires : tie.Need-each-block-requires
+each-block-requires c κs = search needs
 
 returns : tie.Need-returns
 unfolding initial
@@ -21,10 +21,10 @@ returns c =
     let e = c .before .before .before .before .before in
     let a = e .before .before in
     let m = a .before .before .before .before .args .m .now in
-    hashed-padded initial m (a .absorb .result) (e .end-blocks .last .0) (c .absorb2 .result) (e .end-blocks .result)
-    (a .absorb .ensures) (e .end-blocks .ensures) (c .absorb2 .ensures)
+    hashed-padded initial m (a .absorb .result) (e .end-blocks .last .0) (c .each-block .result) (e .end-blocks .result)
+    (a .absorb .ensures) (e .end-blocks .ensures) (c .each-block .ensures)
 
 pub hash-spec : {M : Type 1} → statement M
 hash-spec =
     tie.close (tie.spec (search needs) absorb-requires (search needs) end-blocks-requires (search needs)
-    (search needs) (search needs) absorb-requires-2 returns)
+    (search needs) (search needs) each-block-requires returns)
