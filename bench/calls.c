@@ -3,9 +3,10 @@
 // entries, or metadata other than that of the edited image, ends the program with status 3.
 #include "../include/quaythistle.h"
 #include "measure.h"
-enum { COPIES = 4 };
+enum { COPIES = 4, TIME = 1700000000 };
 static uint8_t images[COPIES][QT_IMAGE_SIZE(QT_MOST_BLOCKS + 1)], first[QT_LONGEST_PROOF], second[QT_LONGEST_PROOF];
-static uint8_t block[QT_LONGEST_MESSAGE], saved[QT_SAVED_SIZE];
+static uint8_t message[QT_LONGEST_MESSAGE], front[QT_LONGEST_MESSAGE - QT_LONGEST_READINGS], readings[QT_LONGEST_READINGS];
+static uint8_t saved[QT_SAVED_SIZE];
 static uint64_t shape[QT_MOST_BLOCKS];
 static size_t size, first_size, second_size;
 static qt_metadata held;
@@ -14,9 +15,10 @@ static int copy;
 
 // One turn for each export.
 static void nothing(void *a) { kept = 0, (void)a; }
-static void digest(void *a) { kept = qt_sha256_digest(block, sizeof block).verdict.refusal, (void)a; }
-static void tag(void *a) { kept = qt_labels_tag(block, sizeof block).verdict.refusal, (void)a; }
-static void matches(void *a) { kept = qt_labels_matches(held.label, block, sizeof block).verdict.refusal, (void)a; }
+static void digest(void *a) { kept = qt_sha256_digest(message, sizeof message).verdict.refusal, (void)a; }
+static void joined(void *a) { kept = qt_sha256_digest_joined(front, sizeof front, readings, sizeof readings).verdict.refusal, (void)a; }
+static void tag(void *a) { kept = qt_labels_tag(TIME, readings, sizeof readings).verdict.refusal, (void)a; }
+static void matches(void *a) { kept = qt_labels_matches(held.label, TIME, readings, sizeof readings).verdict.refusal, (void)a; }
 static void height(void *a) { kept = qt_labels_height(32) == QT_MOST_HEIGHT, (void)a; }
 static void check(void *a) { kept = qt_store_check(images[0], size).verdict.refusal, (void)a; }
 static void prove(void *a) { kept = qt_store_prove(images[0], size, command.position, first, sizeof first, 0).verdict.refusal, (void)a; }
@@ -28,8 +30,8 @@ static void shapes(void *a) { kept = qt_shapes_shape(images[0], size, shape, QT_
 static void apply(void *a) { kept = qt_store_apply(images[copy++ % COPIES], sizeof images[0], command).verdict.refusal, (void)a; }
 
 static const struct { const char *name; void (*turn)(void *); int operation; } calls[] = {
-    {"nothing", nothing, 0}, {"digest", digest, 0}, {"tag", tag, 0}, {"matches", matches, 0}, {"height", height, 0},
-    {"check", check, 0}, {"prove", prove, 0}, {"shape", shapes, 0}, {"save", save, 0}, {"load", load, 0},
+    {"nothing", nothing, 0}, {"digest", digest, 0}, {"joined", joined, 0}, {"tag", tag, 0}, {"matches", matches, 0},
+    {"height", height, 0}, {"check", check, 0}, {"prove", prove, 0}, {"shape", shapes, 0}, {"save", save, 0}, {"load", load, 0},
     {"read", gate, QT_READ}, {"replace", gate, QT_REPLACE}, {"insert", gate, QT_INSERT}, {"delete", gate, QT_DELETE},
     {"apply-read", apply, QT_READ}, {"apply-replace", apply, QT_REPLACE}, {"apply-insert", apply, QT_INSERT}, {"apply-delete", apply, QT_DELETE}};
 

@@ -265,9 +265,14 @@ def apply():
         line([name.capitalize(), number(front), number(back), f"{back / n:.2f}", f"{(front - back) / moved:.3f}" if moved else "–"])
 
 
+# The digest of the longest message, and what hashes the same blocks.
+WHOLE = [
+    ("`sha256::digest` of 4,096 bytes", "digest"),
+    ("`sha256::digest_joined` of 7 and 4,089 bytes", "joined"),
+    ("`labels::tag` of a time and 4,089 bytes", "tag"),
+    ("`labels::matches` of a time and 4,089 bytes", "matches"),
+]
 SHORT = [
-    ("`labels::tag` of 4,096 bytes", "tag"),
-    ("`labels::matches` of 4,096 bytes", "matches"),
     ("`labels::height`", "height"),
     ("`gateway::saved::save`", "save"),
     ("`gateway::saved::load`", "load"),
@@ -277,14 +282,19 @@ SHORT = [
 def short():
     empty = image("row-0-0", [])
     none = count("calls", "nothing", empty, 0, 0, 0)
-    heading("Other calls", f"Less the {none} instructions of a turn that calls nothing.", ["", "instructions"])
+    own = {call: count("calls", call, empty, 0, 0, 0) - none for _, call in WHOLE + SHORT}
+    heading("Other calls", f"Less the {none} instructions of a turn that calls nothing. In brackets: the ratio to the digest's, where the same blocks are hashed.",
+            ["", "instructions"])
+    for name, call in WHOLE:
+        line([name, f"{number(own[call])} ({own[call] / own['digest']:.4f})"])
     for name, call in SHORT:
-        line([name, number(count("calls", call, empty, 0, 0, 0) - none)])
+        line([name, number(own[call])])
 
 
 # The export, the calls that its stack is painted by, and their turn in calls.c.
 STACKS = [
     ("qt_sha256_digest", ["digest"], "digest"),
+    ("qt_sha256_digest_joined", ["joined"], "joined"),
     ("qt_labels_tag", ["tag"], "tag"),
     ("qt_labels_matches", ["matches"], "matches"),
     ("qt_labels_height", ["height"], "height"),

@@ -4,7 +4,8 @@
 int main(void) {
     uint8_t image[QT_IMAGE_SIZE(1)] = {1, 0, 0, 0, 2, 0, 0}, proof[QT_LONGEST_PROOF];
     qt_metadata held = qt_store_check(image, sizeof image).metadata;
-    qt_digest tag = qt_labels_tag((const uint8_t *)"readings", 8).digest;
+    uint32_t time = 1700000000; /* of the sample, in seconds */
+    qt_digest tag = qt_labels_tag(time, (const uint8_t *)"readings", 8).digest;
     qt_command insert = {.operation = QT_INSERT, .height = qt_labels_height(6), .position = 0, .tag = tag};
     qt_proved proved = qt_store_prove(image, sizeof image, 0, proof, sizeof proof, 0);
     qt_answer answer = qt_gateway_check(held, insert, proof, proved.length, NULL, 0);

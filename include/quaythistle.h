@@ -27,10 +27,11 @@ extern "C" {
 #endif
 
 /* Numbers that bound the work. */
-#define QT_MOST_BLOCKS 4096     /* blocks in an archive */
-#define QT_MOST_HEIGHT 15       /* a column's height */
-#define QT_MOST_ENTRIES 200     /* entries in a path that is proved */
-#define QT_LONGEST_MESSAGE 4096 /* bytes of a block or of a message to digest */
+#define QT_MOST_BLOCKS 4096      /* blocks in an archive */
+#define QT_MOST_HEIGHT 15        /* a column's height */
+#define QT_MOST_ENTRIES 200      /* entries in a path that is proved */
+#define QT_LONGEST_MESSAGE 4096  /* bytes of a message to digest */
+#define QT_LONGEST_READINGS 4089 /* bytes of a block's readings, before which 7 more are digested */
 
 /* Sizes in bytes. */
 #define QT_DIGEST_SIZE 32 /* a digest, a tag, a label */
@@ -55,7 +56,7 @@ enum {
     QT_WRONG_POSITION = 8,  /* proved position is not the one wanted, or stop's own is not 1 (0 for position 0) */
     QT_WRONG_LABEL = 9,     /* proved rank is not the count, or recomputed root label is not the one held */
     QT_NOT_NEIGHBOURS = 10, /* Delete's proofs do not meet */
-    QT_LONG_MESSAGE = 11,   /* over 4,096 bytes to digest */
+    QT_LONG_MESSAGE = 11,   /* over 4,096 bytes to digest; so for a block, readings over 4,089 bytes */
     QT_BAD_METADATA = 12    /* count over 4,096, or saved bytes not of the stated form */
 };
 
@@ -146,11 +147,16 @@ typedef struct {
 /* SHA-256 (FIPS 180-4) of a message. Refuses with 11. */
 qt_digested qt_sha256_digest(const uint8_t *message, size_t length);
 
-/* A block's tag: the digest of its readings. Refuses with 11. */
-qt_digested qt_labels_tag(const uint8_t *block, size_t length);
+/* SHA-256 of two runs of bytes joined, as if the second stood right after the first. Refuses with 11 where together they are over 4,096
+ * bytes. */
+qt_digested qt_sha256_digest_joined(const uint8_t *first, size_t first_length, const uint8_t *second, size_t second_length);
 
-/* Matches a block against a tag: yes exactly when the block's digest is that tag. Refuses with 11. */
-qt_matched qt_labels_matches(qt_digest tag, const uint8_t *block, size_t length);
+/* A block's tag: the digest of version byte 1, length of the rest (4 + length) in two bytes, sample time in four bytes (seconds), readings;
+ * both numbers are big-endian. Refuses with 11. */
+qt_digested qt_labels_tag(uint32_t time, const uint8_t *readings, size_t length);
+
+/* Matches a block, its time and readings, against a tag: yes exactly when the block's tag is that tag. Refuses with 11. */
+qt_matched qt_labels_matches(qt_digest tag, uint32_t time, const uint8_t *readings, size_t length);
 
 /* The height drawn from a 16-bit coin word: the number of trailing zero bits of the word, at most 15. Refuses nothing. */
 uint8_t qt_labels_height(uint16_t word);

@@ -18,8 +18,12 @@ pub const BAD_FRAME: &[u8] = b"bad frame\n";
 /// Answers one call.
 pub fn answer(request: &Request) -> Answer {
     match request {
-        Request::Digest { message } => or_refused(block::tag(message), tagged),
-        Request::Match { tag, block } => or_refused(block::matches(tag, block), matched),
+        Request::Digest { message } => or_refused(block::digest(message), tagged),
+        Request::Match {
+            tag,
+            time,
+            readings,
+        } => or_refused(block::matches(tag, *time, readings), matched),
         Request::Height { word } => counted(u32::from(block::height(*word))),
         Request::Save { metadata } => save(metadata),
         Request::Load { saved } => or_refused(metadata::load(saved), described),
@@ -52,6 +56,7 @@ pub fn answer(request: &Request) -> Answer {
                 ..refused(refusal)
             },
         },
+        Request::Tag { time, readings } => or_refused(block::tag(*time, readings), tagged),
     }
 }
 
@@ -70,14 +75,16 @@ fn refused(refusal: Refusal) -> Answer {
     }
 }
 
-fn tagged(tag: Digest) -> Answer {
+/// Done, with this digest or tag.
+pub fn tagged(tag: Digest) -> Answer {
     Answer {
         tag,
         ..Answer::default()
     }
 }
 
-fn matched(yes: bool) -> Answer {
+/// Done, with yes or no.
+pub fn matched(yes: bool) -> Answer {
     Answer {
         yes: u8::from(yes),
         ..Answer::default()

@@ -238,7 +238,9 @@ fn described(request: &Request) -> String {
     let name = request.name();
     match request {
         Request::Digest { message } => format!("{name}, {} bytes", message.len()),
-        Request::Match { block, .. } => format!("{name}, {} bytes", block.len()),
+        Request::Match { time, readings, .. } | Request::Tag { time, readings } => {
+            format!("{name}, time {time}, {} bytes", readings.len())
+        }
         Request::Height { word } => format!("{name}, word {word}"),
         Request::Save { metadata } => format!("{name}, count {}", metadata.count),
         Request::Load { saved } => format!("{name}, {}", hex(saved)),

@@ -12,7 +12,7 @@ pub struct Coverage {
 }
 
 /// Every outcome that can come, call by call. "done" of Match says which.
-const REQUIRED: [(&str, &str); 15] = [
+const REQUIRED: [(&str, &str); 16] = [
     ("digest", "done, 11"),
     ("match", "done yes, done no, 11"),
     ("height", "done"),
@@ -34,6 +34,7 @@ const REQUIRED: [(&str, &str); 15] = [
         "gateway Delete",
         "done, 2, 7 first, 8 first, 9 first, 7 second, 8 second, 9 second, 10, 12",
     ),
+    ("tag", "done, 11"),
 ];
 
 /// What must come up where the metadata is held by no archive.

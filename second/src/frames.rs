@@ -20,7 +20,8 @@ pub enum Request {
     },
     Match {
         tag: Digest,
-        block: Vec<u8>,
+        time: u32,
+        readings: Vec<u8>,
     },
     Height {
         word: u16,
@@ -49,6 +50,10 @@ pub enum Request {
         command: Command,
         first: Vec<u8>,
         second: Vec<u8>,
+    },
+    Tag {
+        time: u32,
+        readings: Vec<u8>,
     },
 }
 
@@ -105,7 +110,8 @@ impl Request {
             }),
             2 => Some(Request::Match {
                 tag: fields.digest()?,
-                block: fields.rest(),
+                time: fields.number()?,
+                readings: fields.rest(),
             }),
             3 => Some(Request::Height {
                 word: bytes::number(fields.take(2)?) as u16,
@@ -125,6 +131,10 @@ impl Request {
                 image: fields.rest(),
             }),
             9 => Request::read_gateway(fields),
+            10 => Some(Request::Tag {
+                time: fields.number()?,
+                readings: fields.rest(),
+            }),
             _ => None,
         }
     }
@@ -158,7 +168,11 @@ impl Request {
     fn write(&self) -> Vec<u8> {
         match self {
             Request::Digest { message } => [&[1][..], message].concat(),
-            Request::Match { tag, block } => [&[2][..], tag, block].concat(),
+            Request::Match {
+                tag,
+                time,
+                readings,
+            } => [&[2][..], tag, &time.to_be_bytes(), readings].concat(),
             Request::Height { word } => [&[3][..], &word.to_be_bytes()].concat(),
             Request::Save { metadata } => [&[4][..], &write_metadata(metadata)].concat(),
             Request::Load { saved } => [&[5][..], saved].concat(),
@@ -185,6 +199,7 @@ impl Request {
                 let length = (first.len() as u32).to_be_bytes();
                 [&[9][..], &fixed, &length, first, second].concat()
             }
+            Request::Tag { time, readings } => [&[10][..], &time.to_be_bytes(), readings].concat(),
         }
     }
 
@@ -215,6 +230,7 @@ impl Request {
                 Operation::Insert => "gateway Insert",
                 Operation::Delete => "gateway Delete",
             },
+            Request::Tag { .. } => "tag",
         }
     }
 }

@@ -3,6 +3,7 @@
 
 use std::sync::atomic::{AtomicBool, AtomicUsize, Ordering};
 
+use crate::block::{HEADER, LONGEST_READINGS};
 use crate::command::{Command, Operation};
 use crate::frames::{Answer, Request};
 use crate::image;
@@ -53,9 +54,21 @@ pub enum Wrong {
     Nods,
     /// The gateway refuses all.
     RefusesAll,
+    /// The tag is document 01's, the digest of the readings alone.
+    ReadingsAlone,
+    /// The tag has version, length and readings under it, and no time.
+    TimeLeftOut,
+    /// The time stands little-endian under the tag.
+    TimeLittleEndian,
+    /// The length under the tag is the readings' and not the rest's.
+    LengthOfReadings,
+    /// Readings are bounded by 4,096, as a digested message is.
+    LongReadings,
+    /// A digested message is bounded by 4,089, as readings are.
+    ShortMessages,
 }
 
-pub const WRONGS: [(&str, Wrong); 21] = [
+pub const WRONGS: [(&str, Wrong); 27] = [
     ("last-tallest", Wrong::LastTallest),
     ("empty-zeros", Wrong::EmptyZeros),
     ("head-zeros", Wrong::HeadZeros),
@@ -77,6 +90,12 @@ pub const WRONGS: [(&str, Wrong); 21] = [
     ("spare-refused", Wrong::SpareRefused),
     ("nods", Wrong::Nods),
     ("refuses-all", Wrong::RefusesAll),
+    ("readings-alone", Wrong::ReadingsAlone),
+    ("time-left-out", Wrong::TimeLeftOut),
+    ("time-little-endian", Wrong::TimeLittleEndian),
+    ("length-of-readings", Wrong::LengthOfReadings),
+    ("long-readings", Wrong::LongReadings),
+    ("short-messages", Wrong::ShortMessages),
 ];
 
 /// The place in `WRONGS` of the wrong in force, from 1 on; 0 for none.
@@ -145,6 +164,23 @@ fn clamped(command: Command, n: u32) -> Command {
     Command { p, ..command }
 }
 
+/// The message of a tag as a wrong program joins it.
+pub fn message(message: Vec<u8>) -> Vec<u8> {
+    let (header, readings) = message.split_at(HEADER);
+    let (version, time) = (&header[..1], &header[3..]);
+    let length = (readings.len() as u16).to_be_bytes();
+    match chosen() {
+        Some(Wrong::ReadingsAlone) => readings.to_vec(),
+        Some(Wrong::TimeLeftOut) => [version, &length, readings].concat(),
+        Some(Wrong::LengthOfReadings) => [version, &length, time, readings].concat(),
+        Some(Wrong::TimeLittleEndian) => {
+            let little: Vec<u8> = time.iter().rev().copied().collect();
+            [&header[..3], &little, readings].concat()
+        }
+        _ => message,
+    }
+}
+
 /// The answer as a wrong program gives it.
 pub fn answer(request: &Request, answer: Answer) -> Answer {
     match chosen() {
@@ -165,6 +201,7 @@ pub fn answer(request: &Request, answer: Answer) -> Answer {
         Some(Wrong::SpareRefused) => spare_refused(request, answer),
         Some(Wrong::Nods) => nods(request, answer),
         Some(Wrong::RefusesAll) => refuses_all(request, answer),
+        Some(Wrong::ShortMessages) => short_messages(request, answer),
         _ => answer,
     }
 }
@@ -228,6 +265,16 @@ fn refuses_all(request: &Request, answer: Answer) -> Answer {
             refusal: 9,
             which: 1,
             metadata: *held,
+            ..Answer::default()
+        },
+        _ => answer,
+    }
+}
+
+fn short_messages(request: &Request, answer: Answer) -> Answer {
+    match request {
+        Request::Digest { message } if message.len() > LONGEST_READINGS => Answer {
+            refusal: Refusal::LongMessage.number(),
             ..Answer::default()
         },
         _ => answer,

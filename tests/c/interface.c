@@ -77,36 +77,126 @@ static void fill_five(void) {
 static const char *const empty_label = "85dd67783c67aa0ad02f06870ed745e0f8b7ae9eb94ab43c257bba9b2fd3390b";
 static const char *const five_label = "58e3ab158035b449e489a22d72a95bf6550cbd259a688b36310ad6e485a06c23";
 
-/* Digests, tags and heights. */
+/* Digests. */
+static const char *const abc_digest = "ba7816bf8f01cfea414140de5dae2223b00361a396177a9cb410ff61f20015ad";
+static const char *const none_digest = "e3b0c44298fc1c149afbf4c8996fb92427ae41e4649b934ca495991b7852b855";
+static const uint8_t abc[3] = {'a', 'b', 'c'};
+
+/* Byte i is i modulo 251. */
+static uint8_t pattern[QT_LONGEST_MESSAGE + 1];
+
+static void fill_pattern(void) {
+    for (size_t i = 0; i < sizeof pattern; i += 1) pattern[i] = (uint8_t)(i % 251);
+}
+
+static bool is_digest(qt_digested d, qt_digest wanted) { return done(d.verdict) && same(d.digest, wanted); }
+
+static bool too_long(qt_digested d) { return refused(d.verdict, QT_LONG_MESSAGE) && same(d.digest, ZERO); }
+
 static void digests(void) {
-    static const uint8_t long_message[QT_LONGEST_MESSAGE + 1];
-    qt_digest abc = hex("ba7816bf8f01cfea414140de5dae2223b00361a396177a9cb410ff61f20015ad");
-    qt_digest none = hex("e3b0c44298fc1c149afbf4c8996fb92427ae41e4649b934ca495991b7852b855");
-    qt_digested d = qt_sha256_digest((const uint8_t *)"abc", 3);
-    CHECK(done(d.verdict) && same(d.digest, abc));
-    d = qt_sha256_digest(NULL, 0);
-    CHECK(done(d.verdict) && same(d.digest, none));
-    CHECK(done(qt_sha256_digest(long_message, QT_LONGEST_MESSAGE).verdict));
-    d = qt_sha256_digest(long_message, sizeof long_message);
-    CHECK(refused(d.verdict, QT_LONG_MESSAGE) && same(d.digest, ZERO));
+    CHECK(is_digest(qt_sha256_digest(abc, 3), hex(abc_digest)));
+    CHECK(is_digest(qt_sha256_digest(NULL, 0), hex(none_digest)));
+    CHECK(done(qt_sha256_digest(pattern, QT_LONGEST_MESSAGE).verdict));
+    CHECK(too_long(qt_sha256_digest(pattern, QT_LONGEST_MESSAGE + 1)));
 }
 
-static void tags(void) {
-    static const uint8_t long_block[QT_LONGEST_MESSAGE + 1];
-    qt_digested t = qt_labels_tag((const uint8_t *)"abc", 3);
-    CHECK(done(t.verdict) && same(t.digest, digest_of("abc", 3)));
-    qt_matched m = qt_labels_matches(t.digest, (const uint8_t *)"abc", 3);
-    CHECK(done(m.verdict) && m.yes);
-    m = qt_labels_matches(t.digest, (const uint8_t *)"abd", 3);
-    CHECK(done(m.verdict) && !m.yes);
-    m = qt_labels_matches(t.digest, NULL, 0);
-    CHECK(done(m.verdict) && !m.yes);
-    t = qt_labels_tag(long_block, sizeof long_block);
-    CHECK(refused(t.verdict, QT_LONG_MESSAGE) && same(t.digest, ZERO));
-    m = qt_labels_matches(ZERO, long_block, sizeof long_block);
-    CHECK(refused(m.verdict, QT_LONG_MESSAGE) && !m.yes);
+/* A first run of this length, joined with each second run of 0 to 200 bytes from elsewhere, has the digest of the same bytes in one run. */
+static bool joins(size_t first) {
+    const uint8_t *elsewhere = pattern + 1000;
+    uint8_t one[130 + 200];
+    memcpy(one, pattern, first);
+    memcpy(one + first, elsewhere, 200);
+    bool yes = true;
+    for (size_t second = 0; second <= 200; second += 1)
+        yes = yes && is_digest(qt_sha256_digest_joined(pattern, first, elsewhere, second), digest_of(one, first + second));
+    return yes;
 }
 
+static void joined_digests(void) {
+    for (size_t first = 0; first <= 130; first += 1) CHECK(joins(first));
+    CHECK(is_digest(qt_sha256_digest_joined(abc, 1, abc + 1, 2), hex(abc_digest)));
+    CHECK(is_digest(qt_sha256_digest_joined(NULL, 0, abc, 3), hex(abc_digest)));
+    CHECK(is_digest(qt_sha256_digest_joined(abc, 3, NULL, 0), hex(abc_digest)));
+    CHECK(is_digest(qt_sha256_digest_joined(NULL, 0, NULL, 0), hex(none_digest)));
+}
+
+static void long_joined(void) {
+    static const size_t firsts[7] = {0, 1, 7, 63, 64, QT_LONGEST_MESSAGE - 1, QT_LONGEST_MESSAGE};
+    qt_digest whole = digest_of(pattern, QT_LONGEST_MESSAGE);
+    for (size_t i = 0; i < 7; i += 1) {
+        size_t first = firsts[i], second = QT_LONGEST_MESSAGE - first;
+        CHECK(is_digest(qt_sha256_digest_joined(pattern, first, pattern + first, second), whole));
+        CHECK(too_long(qt_sha256_digest_joined(pattern, first, pattern + first, second + 1)));
+    }
+    CHECK(too_long(qt_sha256_digest_joined(pattern, sizeof pattern, NULL, 0)));
+    CHECK(too_long(qt_sha256_digest_joined(NULL, 0, pattern, sizeof pattern)));
+    CHECK(too_long(qt_sha256_digest_joined(pattern, sizeof pattern, pattern, sizeof pattern)));
+}
+
+/* Tags of readings that are the pattern's first bytes, as Python's hashlib makes them: the SHA-256 of 01, 4 + length in two bytes, time in
+ * four, and the readings. With 57 bytes of readings that message is one whole block of SHA-256. */
+static const struct {
+    uint32_t time;
+    size_t length;
+    const char *tag;
+} known[] = {
+    {0, 0, "f27e053e2ec3b2768a5ab93c7882265a46530a2b079acbe5cd961a55312cc3b9"},
+    {UINT32_MAX, 0, "66635f07bc06f32838251d96cda574905c918a310c3512017dfbc4780e52b769"},
+    {1, 48, "6f3954ed3ea670e5a7e96858a8d233b7134c2820dc1bd3111a96c357e9c557f4"},
+    {256, 49, "1d263aca544b012e9ec089c77c8e16fabc2e44f05c4deb7b0c1c051e415b6cab"},
+    {65536, 56, "92f9c361dc549cdd7cc6d87a221f03b511e2feed644a633cb7ccafeb50048770"},
+    {1700000000, 57, "e1afe311ed88df50cd07388773ec246394857c65659260ec40b9a3d67f43e76d"},
+    {UINT32_MAX, 58, "ac01499a6539817fc77d54de9aeabad34c34204739af9a79cac1c406035d2023"},
+    {16777216, 251, "115308e38c4314ea22912013b8fb5ff6f708ec47f3bf0f165dc3e8cc8d124d6b"},
+    {0, 4089, "f8c6fe7424529d35ce3d2765687844ec7e1e1bd3fda18dbb3a66b45318ab115d"},
+    {1700000000, 4089, "fcedd0a823d101e1b076e6138ff3c5f3753879451d4268230edc11c5ddbdcca3"},
+};
+
+static qt_digested spelled_out(uint32_t time, const uint8_t *readings, size_t length) {
+    size_t rest = 4 + length;
+    uint8_t front[7] = {1, (uint8_t)(rest >> 8), (uint8_t)rest};
+    for (size_t i = 0; i < 4; i += 1) front[3 + i] = (uint8_t)(time >> (24 - 8 * i));
+    return qt_sha256_digest_joined(front, sizeof front, readings, length);
+}
+
+static bool says(qt_matched m, bool yes) { return done(m.verdict) && m.yes == yes; }
+
+static void known_tags(void) {
+    for (size_t i = 0; i < sizeof known / sizeof *known; i += 1) {
+        uint32_t time = known[i].time;
+        size_t length = known[i].length;
+        qt_digest tag = hex(known[i].tag);
+        CHECK(is_digest(qt_labels_tag(time, pattern, length), tag));
+        CHECK(is_digest(spelled_out(time, pattern, length), tag));
+        CHECK(says(qt_labels_matches(tag, time, pattern, length), true));
+    }
+    CHECK(is_digest(qt_labels_tag(0, NULL, 0), hex(known[0].tag)));
+    CHECK(says(qt_labels_matches(hex(known[0].tag), 0, NULL, 0), true));
+}
+
+/* A tag is of a time and readings together: neither another time nor other readings match it, and the readings' digest alone is no tag. */
+static void matches(void) {
+    const uint32_t time = 1700000000;
+    qt_digest tag = qt_labels_tag(time, abc, 3).digest;
+    CHECK(says(qt_labels_matches(tag, time, abc, 3), true));
+    for (uint32_t bit = 1; bit != 0; bit <<= 1) CHECK(says(qt_labels_matches(tag, time ^ bit, abc, 3), false));
+    CHECK(says(qt_labels_matches(tag, time, (const uint8_t *)"abd", 3), false));
+    CHECK(says(qt_labels_matches(tag, time, abc, 2), false));
+    CHECK(says(qt_labels_matches(tag, time, NULL, 0), false));
+    CHECK(says(qt_labels_matches(digest_of(abc, 3), time, abc, 3), false));
+    CHECK(says(qt_labels_matches(digest_of(abc, 3), 0, abc, 3), false));
+}
+
+static void long_readings(void) {
+    static const size_t lengths[2] = {QT_LONGEST_READINGS + 1, QT_LONGEST_MESSAGE + 1};
+    for (size_t i = 0; i < 2; i += 1) {
+        CHECK(too_long(qt_labels_tag(0, pattern, lengths[i])));
+        qt_matched m = qt_labels_matches(ZERO, 0, pattern, lengths[i]);
+        CHECK(refused(m.verdict, QT_LONG_MESSAGE) && !m.yes);
+    }
+}
+
+/* Heights. */
 static void heights(void) {
     CHECK(qt_labels_height(1) == 0);
     CHECK(qt_labels_height(6) == 1);
@@ -366,8 +456,13 @@ static void refused_neighbours(void) {
 }
 
 int main(void) {
+    fill_pattern();
     digests();
-    tags();
+    joined_digests();
+    long_joined();
+    known_tags();
+    matches();
+    long_readings();
     heights();
     images();
     shapes();

@@ -54,6 +54,7 @@ AT(qt_answer, metadata, 40);
 
 static_assert(QT_LONGEST_IMAGE == 135175, "the longest image");
 static_assert(QT_LONGEST_PROOF == 7677, "the longest proof");
+static_assert(7 + QT_LONGEST_READINGS == QT_LONGEST_MESSAGE, "the longest readings");
 
 #undef AT
 #undef SIZE

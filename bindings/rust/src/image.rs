@@ -97,7 +97,7 @@ impl Image {
     /// # fn main() -> Result<(), quaythistle::Refusal> {
     /// use quaythistle::{Command, Image, Refusal};
     /// let mut image = Image::new();
-    /// let tag = quaythistle::tag(b"readings")?;
+    /// let tag = quaythistle::tag(1_700_000_000, b"readings")?;
     /// assert_eq!(image.apply(&Command::Insert { position: 0, height: 3, tag }), Ok(1));
     /// assert_eq!(image.apply(&Command::Insert { position: 0, height: 16, tag }), Err(Refusal::BadHeight));
     /// assert_eq!(image.apply(&Command::Delete { position: 1 }), Ok(0));

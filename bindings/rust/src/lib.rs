@@ -9,7 +9,7 @@
 //!
 //! let mut image = Image::new();
 //! let held = image.metadata();
-//! let insert = Command::Insert { position: 0, height: 0, tag: quaythistle::tag(b"readings")? };
+//! let insert = Command::Insert { position: 0, height: 0, tag: quaythistle::tag(1_700_000_000, b"readings")? };
 //! let proof = image.prove(0)?;
 //! let accepted = held.check(&insert, proof.as_bytes(), &[])?;
 //! image.apply(&insert)?;
@@ -30,7 +30,7 @@ mod refusal;
 pub mod store;
 
 pub use command::Command;
-pub use digest::{digest, height, matches, tag, Digest, Label, Tag};
+pub use digest::{digest, digest_joined, height, matches, tag, Digest, Label, Tag};
 pub use image::{Image, Proof};
 pub use metadata::{Accepted, Metadata};
 pub use refusal::{Refusal, Which};

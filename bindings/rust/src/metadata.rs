@@ -58,7 +58,7 @@ impl Metadata {
     /// use quaythistle::{Command, Image, Refusal, Which};
     /// let mut image = Image::new();
     /// let held = image.metadata();
-    /// let insert = Command::Insert { position: 0, height: 1, tag: quaythistle::tag(b"readings")? };
+    /// let insert = Command::Insert { position: 0, height: 1, tag: quaythistle::tag(1_700_000_000, b"readings")? };
     /// let accepted = held.check(&insert, image.prove(0)?.as_bytes(), &[])?;
     /// image.apply(&insert)?;
     /// assert_eq!(accepted.metadata, image.metadata());

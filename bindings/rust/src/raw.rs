@@ -77,8 +77,15 @@ pub struct Answer {
 
 extern "C" {
     pub fn qt_sha256_digest(message: *const u8, length: usize) -> Digested;
-    pub fn qt_labels_tag(block: *const u8, length: usize) -> Digested;
-    pub fn qt_labels_matches(tag: Digest, block: *const u8, length: usize) -> Matched;
+    pub fn qt_sha256_digest_joined(
+        first: *const u8,
+        first_length: usize,
+        second: *const u8,
+        second_length: usize,
+    ) -> Digested;
+    pub fn qt_labels_tag(time: u32, readings: *const u8, length: usize) -> Digested;
+    pub fn qt_labels_matches(tag: Digest, time: u32, readings: *const u8, length: usize)
+        -> Matched;
     pub fn qt_labels_height(word: u16) -> u8;
     pub fn qt_store_check(image: *const u8, length: usize) -> MetadataAnswer;
     pub fn qt_store_prove(

@@ -33,7 +33,7 @@ pub enum Refusal {
     WrongLabel(Which),
     /// 10: Delete's proofs do not meet.
     NotNeighbours,
-    /// 11: over 4,096 bytes to digest.
+    /// 11: over 4,096 bytes to digest; so for a block, readings over 4,089 bytes.
     LongMessage,
     /// 12: count over 4,096, or saved bytes not of the stated form.
     BadMetadata,

@@ -63,7 +63,7 @@ pub fn prove(
 /// use quaythistle::{store, Command, Refusal};
 /// let mut buffer = [0; 40];
 /// buffer[..7].copy_from_slice(&[1, 0, 0, 0, 2, 0, 0]);
-/// let insert = Command::Insert { position: 0, height: 0, tag: quaythistle::tag(b"readings")? };
+/// let insert = Command::Insert { position: 0, height: 0, tag: quaythistle::tag(1_700_000_000, b"readings")? };
 /// assert_eq!(store::apply(&mut buffer, &insert), Ok(1));
 /// assert_eq!(store::apply(&mut buffer, &insert), Err(Refusal::NoRoom));
 /// # Ok(())

@@ -1,6 +1,6 @@
 //! The row of five, blocks A to E with heights 0, 2, 0, 1, 2, through every call, and every refusal that these types can meet.
 
-use quaythistle::{digest, store, tag, Command, Image, Metadata, Refusal, Tag, Which};
+use quaythistle::{digest, store, Command, Image, Metadata, Refusal, Tag, Which};
 
 const EMPTY_LABEL: &str = "85dd67783c67aa0ad02f06870ed745e0f8b7ae9eb94ab43c257bba9b2fd3390b";
 const FIVE_LABEL: &str = "58e3ab158035b449e489a22d72a95bf6550cbd259a688b36310ad6e485a06c23";
@@ -14,7 +14,7 @@ fn hex(bytes: &[u8]) -> String {
 fn letter(position: u64) -> Tag {
     match position {
         0 => [0; 32],
-        _ => tag(LETTERS[position as usize - 1]).unwrap(),
+        _ => digest(LETTERS[position as usize - 1]).unwrap(),
     }
 }
 

@@ -153,14 +153,34 @@ fn call_digest(r: &[u8]) -> bool {
     true
 }
 
+// A sample time in four bytes.
+fn time(r: &[u8], at: usize) -> u32
+    requires { ⌜ at + 4 ≤ length (now r) ⌝ }
+{
+    octets::four_at(r, at) as u32
+}
+
 fn call_match(r: &[u8]) -> bool {
-    if r.len() < 33 {
+    if r.len() < 37 {
         return false;
     }
-    let m = labels::matches(octets::bytes32(r, 1), &r[33..]);
+    let m = labels::matches(octets::bytes32(r, 1), time(r, 33), &r[37..]);
     let v = m.verdict;
     let mut f = blank(v);
     f.yes = m.yes;
+    send(f, b"");
+    true
+}
+
+fn call_tag(r: &[u8]) -> bool {
+    if r.len() < 5 {
+        return false;
+    }
+    let t = labels::tag(time(r, 1), &r[5..]);
+    let v = t.verdict;
+    let mut f = blank(v);
+    let tag = t.tag;
+    f.tag = tag;
     send(f, b"");
     true
 }
@@ -295,6 +315,7 @@ fn answered(r: &mut [u8]) -> bool {
         7 => call_prove(r),
         8 => call_apply(r),
         9 => call_gateway(r),
+        10 => call_tag(r),
         _ => false,
     }
 }

@@ -40,8 +40,8 @@ unfolding tagOf matchOf saveOf loadOf checkVerdict checkOf proveVerdict proveOf 
 first-demand = record {
   digest = λ m r a. refuses _ (digestRules m) _ (a .verdict ∙ digest-rules m) refl
       (λ w e. a .bytes ∙ digest-zeros m w e);
-  tag = λ block r a. refuses _ (tagRules block) _ (a .verdict) refl (λ w e. a .tag ∙ refused-settled _ w _ _ e);
-  match = λ tag block r a. refuses _ (tagRules block) _ (a .verdict) refl
+  tag = λ time readings r a. refuses _ (tagRules readings) _ (a .verdict) refl (λ w e. a .tag ∙ refused-settled _ w _ _ e);
+  match = λ tag time readings r a. refuses _ (tagRules readings) _ (a .verdict) refl
       (λ w e. a .yes ∙ refused-settled _ w _ _ e);
   save = λ m r a. refuses _ (saveRules m) _ (a .verdict) refl (λ w e. a .bytes ∙ refused-settled _ w _ _ e);
   load = λ s r a. refuses _ (loadRules s) _ (a .verdict) refl (λ w e. a .metadata ∙ refused-settled _ w _ _ e);

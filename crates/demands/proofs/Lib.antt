@@ -5,4 +5,5 @@ pub mod RowOfFive
 pub mod Uniqueness
 pub mod SecondDemand
 pub mod ThirdDemand
+pub mod TaggedBlocks
 pub mod Theorems

@@ -55,8 +55,8 @@ pub all-placed : Placed
 unfolding tagOf matchOf saveOf loadOf checkVerdict checkOf proveVerdict proveOf applyVerdict applyOf shapeOf gatewayOf
 all-placed = record {
   digest = λ m. placed _ (digestRules m) _ (digest-rules m) refl;
-  tag = λ block. placed _ (tagRules block) _ refl refl;
-  match = λ tag block. placed _ (tagRules block) _ refl refl;
+  tag = λ time readings. placed _ (tagRules readings) _ refl refl;
+  match = λ tag time readings. placed _ (tagRules readings) _ refl refl;
   save = λ m. placed _ (saveRules m) _ refl refl;
   load = λ s. placed _ (loadRules s) _ refl refl;
   check = λ b. placed _ (checkRules b) _ refl refl;

@@ -6,6 +6,8 @@ pub use Rattle.demands.proofs.FirstDemand.{first-demand}
 pub use Rattle.demands.proofs.SecondDemand.{second-demand}
 -- Demand 3: what the gateway accepts is right, or two messages clash; 10 comes only with a clash.
 pub use Rattle.demands.proofs.ThirdDemand.{third-demand}
+-- Demands 2 and 3 over the tags of ask 1: a block that matches what the gateway reports is the one that stands there.
+pub use Rattle.demands.proofs.TaggedBlocks.{tagged-blocks}
 -- P1 to P10, with any tags.
 pub use Rattle.demands.proofs.RowOfFive.{row-of-five}
 -- Two outcomes that satisfy a pledge are equal.

@@ -35,9 +35,11 @@ use Rattle.shapes.specs.Shape.{Shapes}
 use Rattle.demands.specs.Words.{gatewayNumbers, Refuses}
 
 pub record FirstDemand : Type 0 where
+  -- digest, and digest_joined, whose message m is its two parts joined
   pub digest : (m : List ℕ) (r : Digested) → Answers m r → Refuses (r .verdict) (11 ∷ []) (r .bytes ≡ zeros)
-  pub tag : (block : List ℕ) (r : Tagged) → Tags block r → Refuses (r .verdict) (11 ∷ []) (r .tag ≡ zeros)
-  pub match : (tag block : List ℕ) (r : Matched) → Matches tag block r
+  pub tag : (time : ℕ) (readings : List ℕ) (r : Tagged) → Tags time readings r
+      → Refuses (r .verdict) (11 ∷ []) (r .tag ≡ zeros)
+  pub match : (tag : List ℕ) (time : ℕ) (readings : List ℕ) (r : Matched) → Matches tag time readings r
       → Refuses (r .verdict) (11 ∷ []) (r .yes ≡ false)
   pub save : (m : Metadata) (r : Saved) → Saves m r
       → Refuses (r .verdict) (12 ∷ []) (r .bytes ≡ replicate savedSize 0)

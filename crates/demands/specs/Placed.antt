@@ -32,8 +32,9 @@ checkRules b = (BadImage when not (sound b)) ∷ []
 
 pub record Placed : Type 0 where
   pub digest : (m : List ℕ) → Exactly (digestOf m .verdict) (digestRules m) (11 ∷ [])
-  pub tag : (block : List ℕ) → Exactly (tagOf block .verdict) (tagRules block) (11 ∷ [])
-  pub match : (tag block : List ℕ) → Exactly (matchOf tag block .verdict) (tagRules block) (11 ∷ [])
+  pub tag : (time : ℕ) (readings : List ℕ) → Exactly (tagOf time readings .verdict) (tagRules readings) (11 ∷ [])
+  pub match : (tag : List ℕ) (time : ℕ) (readings : List ℕ)
+      → Exactly (matchOf tag time readings .verdict) (tagRules readings) (11 ∷ [])
   pub save : (m : Metadata) → Exactly (saveOf m .verdict) (saveRules m) (12 ∷ [])
   pub load : (s : List ℕ) → Exactly (loadOf s .verdict) (loadRules s) (12 ∷ [])
   pub check : (b : List ℕ) → Exactly (checkOf b .verdict) (checkRules b) (1 ∷ [])

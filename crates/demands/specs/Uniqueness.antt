@@ -21,8 +21,8 @@ use Rattle.demands.specs.Words.{Unique}
 
 pub record Uniqueness : Type 0 where
   pub digest : (m : List ℕ) → Unique (Answers m)
-  pub tag : (block : List ℕ) → Unique (Tags block)
-  pub match : (tag block : List ℕ) → Unique (Matches tag block)
+  pub tag : (time : ℕ) (readings : List ℕ) → Unique (Tags time readings)
+  pub match : (tag : List ℕ) (time : ℕ) (readings : List ℕ) → Unique (Matches tag time readings)
   pub height : (word : ℕ) → Unique (λ r. r ≡ heightOf word)
   pub save : (m : Metadata) → Unique (Saves m)
   pub load : (s : List ℕ) → Unique (Loads s)

@@ -1,5 +1,5 @@
-// A told story, all of it through the public calls: the archive of a night, a late block filed in its middle, and five stores that
-// lie. The gateway keeps only `Metadata`; image and proofs are in the store's hands.
+// A told story, all of it through the public calls: the archive of a night, a late block filed in its middle, five stores that lie,
+// and two nights with the same readings. The gateway keeps only `Metadata`; image and proofs are in the store's hands.
 use commands::Command;
 use commands::Metadata;
 use commands::Operation;
@@ -10,6 +10,13 @@ use refusals::Verdict;
 const IMAGE: usize = 512;
 
 const PROOF: usize = 1024;
+
+// Sample times, in seconds: the night's midnight, an hour, a day.
+const MIDNIGHT: u32 = 1_794_700_800;
+
+const HOUR: u32 = 3_600;
+
+const DAY: u32 = 86_400;
 
 fn say(text: &[u8]) {
     io::write_all(1, text);
@@ -58,8 +65,8 @@ fn say_verdict(v: Verdict) {
     }
 }
 
-fn tag_of(block: &[u8]) -> [u8; 32] {
-    let t = labels::tag(block);
+fn tag_of(time: u32, readings: &[u8]) -> [u8; 32] {
+    let t = labels::tag(time, readings);
     t.tag
 }
 
@@ -111,8 +118,16 @@ fn held(image: &[u8]) -> Metadata {
 }
 
 // One honest filing: the store proves the place, the gateway checks and predicts, the store applies. What the gateway then holds.
-fn filed(m: Metadata, image: &mut [u8], name: &[u8], p: u64, height: u8, block: &[u8]) -> Metadata {
-    let k = command(Operation::Insert, p, height, tag_of(block));
+fn filed(
+    m: Metadata,
+    image: &mut [u8],
+    name: &[u8],
+    p: u64,
+    height: u8,
+    time: u32,
+    readings: &[u8],
+) -> Metadata {
+    let k = command(Operation::Insert, p, height, tag_of(time, readings));
     let a = asked(m, k, image, p);
     let v = a.verdict;
     if !refusals::is_done(v) {
@@ -139,10 +154,26 @@ fn night(image: &mut [u8]) -> Metadata {
     say(b"  an empty archive: ");
     say_metadata(m);
     say(b"\n");
-    m = filed(m, image, b"00:00", 0, 0, b"00:00 level 4.12 m");
-    m = filed(m, image, b"01:00", 1, 2, b"01:00 level 4.15 m");
-    m = filed(m, image, b"03:00", 2, 0, b"03:00 level 4.31 m");
-    filed(m, image, b"04:00", 3, 1, b"04:00 level 4.42 m")
+    m = filed(m, image, b"00:00", 0, 0, MIDNIGHT, b"level 4.12 m");
+    m = filed(m, image, b"01:00", 1, 2, MIDNIGHT + HOUR, b"level 4.15 m");
+    m = filed(
+        m,
+        image,
+        b"03:00",
+        2,
+        0,
+        MIDNIGHT + 3 * HOUR,
+        b"level 4.31 m",
+    );
+    filed(
+        m,
+        image,
+        b"04:00",
+        3,
+        1,
+        MIDNIGHT + 4 * HOUR,
+        b"level 4.42 m",
+    )
 }
 
 // The same label, byte by byte?
@@ -170,7 +201,15 @@ fn late(m: Metadata, image: &mut [u8]) -> Metadata {
         b"\nThe radio was out at 02:00. At 05:00 the outstation dials in with that block; it belongs after position 2.\n",
     );
     say_proof(image, 2);
-    let next = filed(m, image, b"02:00", 2, 1, b"02:00 level 4.22 m");
+    let next = filed(
+        m,
+        image,
+        b"02:00",
+        2,
+        1,
+        MIDNIGHT + 2 * HOUR,
+        b"level 4.22 m",
+    );
     let seen = held(image);
     say(b"  the store's image, checked afresh: ");
     say_metadata(seen);
@@ -195,7 +234,12 @@ fn lie(what: &[u8], a: Answer, why: &[u8]) {
 // It files the late block at the end, under its time of arrival.
 fn files_at_the_end(m: Metadata, before: [u8; 512]) {
     let mut image = before;
-    let k = command(Operation::Insert, 4, 1, tag_of(b"02:00 level 4.22 m"));
+    let k = command(
+        Operation::Insert,
+        4,
+        1,
+        tag_of(MIDNIGHT + 2 * HOUR, b"level 4.22 m"),
+    );
     store::apply(&mut image, k);
     let a = asked(m, read(3), &image, 3);
     lie(
@@ -278,6 +322,51 @@ fn deletes_the_wrong_block(m: Metadata, honest: [u8; 512]) {
     );
 }
 
+// The store shows an idle night's block for the tag that was proved.
+fn shown(tag: [u8; 32], name: &[u8], time: u32) {
+    let m = labels::matches(tag, time, b"level 4.12 m");
+    say(b"  the store shows ");
+    say(name);
+    if m.yes {
+        say(b": it matches the tag that was proved\n");
+    } else {
+        say(b" in its place: no match. The readings are the same, the time is not\n");
+    }
+}
+
+// Two nights in which nothing happened. A tag of readings alone would be the same for both.
+fn idle_nights() {
+    let mut image = empty_archive();
+    let mut m = held(&image);
+    say(b"\nTwo idle nights at one tank, both with the reading level 4.12 m:\n");
+    m = filed(
+        m,
+        &mut image,
+        b"the first night",
+        0,
+        0,
+        MIDNIGHT,
+        b"level 4.12 m",
+    );
+    m = filed(
+        m,
+        &mut image,
+        b"the second night",
+        1,
+        1,
+        MIDNIGHT + DAY,
+        b"level 4.12 m",
+    );
+    let a = asked(m, read(1), &image, 1);
+    let v = a.verdict;
+    let tag = a.tag;
+    say(b"  The gateway reads position 1, the first night:\n");
+    say_verdict(v);
+    say(b"\n");
+    shown(tag, b"the first night", MIDNIGHT);
+    shown(tag, b"the second night", MIDNIGHT + DAY);
+}
+
 fn main() {
     let mut image = empty_archive();
     let before_late = night(&mut image);
@@ -292,4 +381,5 @@ fn main() {
     say(b"\nEach was refused, and the gateway still holds ");
     say_metadata(m);
     say(b"\n");
+    idle_nights();
 }

@@ -1,4 +1,4 @@
-mod TagLaws
+pub mod TagLaws
 mod HeightLaws
 mod Joins
 pub mod CodeLaws

@@ -7,10 +7,11 @@ use Rattle.labels.specs.declared.Tagged.{Tagged}
 use Rattle.labels.specs.declared.Matched.{Matched}
 use Rattle.labels.specs.Tags.{Tags, Matches}
 
-pub tag-unique : (block : List ℕ) (r s : Tagged) → Tags block r → Tags block s → r ≡ s
-tag-unique block r s p q =
+pub tag-unique : (time : ℕ) (readings : List ℕ) (r s : Tagged) → Tags time readings r → Tags time readings s → r ≡ s
+tag-unique time readings r s p q =
     λ i. record { verdict = (p .verdict ∙ sym (q .verdict)) i; tag = (p .tag ∙ sym (q .tag)) i }
 
-pub match-unique : (tag block : List ℕ) (r s : Matched) → Matches tag block r → Matches tag block s → r ≡ s
-match-unique tag block r s p q =
+pub match-unique : (tag : List ℕ) (time : ℕ) (readings : List ℕ) (r s : Matched) → Matches tag time readings r
+    → Matches tag time readings s → r ≡ s
+match-unique tag time readings r s p q =
     λ i. record { verdict = (p .verdict ∙ sym (q .verdict)) i; yes = (p .yes ∙ sym (q .yes)) i }

@@ -1,17 +1,21 @@
 // Tags, heights and labels: a block's tag and its match, the height drawn from a coin word, and the sides of a tree by value.
 ghost use mathlib.Core.Path.{_≡_};
 ghost use mathlib.Core.List.{_∷_, [], _++_};
-ghost use Prim.Native.Nat.{_≤_};
+ghost use Prim.Native.Nat.{_+_, _≤_};
 ghost use lib.ListN.{length};
 ghost use Rattle.octets.specs.Numbers.{be};
 ghost use Rattle.sha256.specs.Hash.{sha256};
 ghost use Rattle.sha256.specs.Answer.{longest};
 ghost use Rattle.skiplist.specs.Label.{labelOf};
 ghost use Rattle.skiplist.specs.Blocks.{itemOf};
-ghost use Rattle.labels.specs.Tags.{Tags, Matches};
+ghost use Rattle.labels.specs.Tags.{mostReadings, tagHead, Tags, Matches};
 ghost use Rattle.labels.specs.Heights.{heightOf};
 ghost use Rattle.labels.specs.CodeSides.{messageOf, message, noSide, leafOf, nodeOf};
+use refusals::Refusal;
 use refusals::Verdict;
+
+// The most bytes of readings that a block has: with the seven bytes before them the longest message.
+const MOST_READINGS: usize = 4089;
 
 pub struct Tagged {
     pub verdict: Verdict,
@@ -23,24 +27,41 @@ pub struct Matched {
     pub yes: bool,
 }
 
-// A block's tag, the digest of its readings; 11 for a long block.
-pub fn tag(block: &[u8]) -> Tagged
-    ensures { λ r. ⌜ Tags (now (block .entry)) r ⌝ }
+// The seven bytes that stand before a block's readings in the message that its tag is the digest of: version 1, the length of
+// the rest, the sample time.
+fn put_head(d: &mut [u8], time: u64, readings: u64)
+    requires { ⌜ (length (now d) ≡ 7) × (readings ≤ mostReadings) ⌝ }
+    ensures { λ _. ⌜ now (d .exit) ≡ tagHead time readings ⌝ }
 {
-    let d = sha256::digest(block);
-    let bytes = d.bytes;
-    let v = d.verdict;
+    octets::put_one(d, 0, 1);
+    octets::put_two(d, 1, 4 + readings);
+    octets::put_four(d, 3, time);
+}
+
+// A block's tag: the digest of its time and readings; 11 for readings over 4,089 bytes.
+pub fn tag(time: u32, readings: &[u8]) -> Tagged
+    ensures { λ r. ⌜ Tags time (now (readings .entry)) r ⌝ }
+{
+    if MOST_READINGS < readings.len() {
+        return Tagged {
+            verdict: Verdict::Refused(Refusal::LongMessage),
+            tag: [0u8; 32],
+        };
+    }
+    let mut head = [0u8; 7];
+    put_head(&mut head, time as u64, readings.len() as u64);
+    let bytes = hashed_joined(&head, readings);
     Tagged {
-        verdict: v,
+        verdict: Verdict::Done,
         tag: bytes,
     }
 }
 
-// Is this the tag of that block? 11 for a long block.
-pub fn matches(tag: [u8; 32], block: &[u8]) -> Matched
-    ensures { λ r. ⌜ Matches tag (now (block .entry)) r ⌝ }
+// Is this the tag of that block? 11 for readings over 4,089 bytes.
+pub fn matches(tag: [u8; 32], time: u32, readings: &[u8]) -> Matched
+    ensures { λ r. ⌜ Matches tag time (now (readings .entry)) r ⌝ }
 {
-    let t = self::tag(block);
+    let t = self::tag(time, readings);
     let v = t.verdict;
     if refusals::is_done(v) {
         let bytes = t.tag;
@@ -81,12 +102,20 @@ pub fn no_side() -> Side
     }
 }
 
-// The digest of a message that is not long.
+// The digest of a message that is not long, and of one in two parts.
 fn hashed(m: &[u8]) -> [u8; 32]
     requires { ⌜ length (now m) ≤ longest ⌝ }
     ensures { λ r. ⌜ r ≡ sha256 (now (m .entry)) ⌝ }
 {
     let d = sha256::digest(m);
+    d.bytes
+}
+
+fn hashed_joined<'a>(first: &'a [u8], second: &'a [u8]) -> [u8; 32]
+    requires { ⌜ length (now first) + length (now second) ≤ longest ⌝ }
+    ensures { λ r. ⌜ r ≡ sha256 (now (first .entry) ++ now (second .entry)) ⌝ }
+{
+    let d = sha256::digest_joined(first, second);
     d.bytes
 }
 

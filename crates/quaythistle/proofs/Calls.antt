@@ -36,14 +36,15 @@ pub as-digested
 as-digested m d v pledge said = record { verdict = said ∙ ap plainVerdict (pledge .verdict); digest = ap plainDigest (pledge .bytes) }
 
 pub as-tagged
-    : (block : List ℕ) (t : Tagged) (v : QtVerdict) → labels.Tags block t → v ≡ plainVerdict (t .verdict)
-    → Tags block (record { verdict = v; digest = plainDigest (t .tag) })
-as-tagged block t v pledge said = record { verdict = said ∙ ap plainVerdict (pledge .verdict); digest = ap plainDigest (pledge .tag) }
+    : (time : ℕ) (readings : List ℕ) (t : Tagged) (v : QtVerdict) → labels.Tags time readings t → v ≡ plainVerdict (t .verdict)
+    → Tags time readings (record { verdict = v; digest = plainDigest (t .tag) })
+as-tagged time readings t v pledge said = record { verdict = said ∙ ap plainVerdict (pledge .verdict); digest = ap plainDigest (pledge .tag) }
 
 pub as-matched
-    : (tag : QtDigest) (block : List ℕ) (m : Matched) (v : QtVerdict) → labels.Matches (tag .bytes) block m → v ≡ plainVerdict (m .verdict)
-    → Matches tag block (record { verdict = v; yes = m .yes })
-as-matched tag block m v pledge said = record { verdict = said ∙ ap plainVerdict (pledge .verdict); yes = pledge .yes }
+    : (tag : QtDigest) (time : ℕ) (readings : List ℕ) (m : Matched) (v : QtVerdict) → labels.Matches (tag .bytes) time readings m
+    → v ≡ plainVerdict (m .verdict)
+    → Matches tag time readings (record { verdict = v; yes = m .yes })
+as-matched tag time readings m v pledge said = record { verdict = said ∙ ap plainVerdict (pledge .verdict); yes = pledge .yes }
 
 pub as-checked
     : (b : List ℕ) (c : Checked) (v : QtVerdict) (m : QtMetadata) → store.Checks b c → v ≡ plainVerdict (c .verdict)

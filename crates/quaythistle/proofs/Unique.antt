@@ -18,11 +18,12 @@ use Rattle.quaythistle.specs.Pledges.{Digests, Tags, Matches, Draws, Che
 pub digest-unique : (m : List ℕ) (r s : QtDigested) → Digests m r → Digests m s → r ≡ s
 digest-unique m r s p q = λ i. record { verdict = (p .verdict ∙ sym (q .verdict)) i; digest = (p .digest ∙ sym (q .digest)) i }
 
-pub tag-unique : (block : List ℕ) (r s : QtDigested) → Tags block r → Tags block s → r ≡ s
-tag-unique block r s p q = λ i. record { verdict = (p .verdict ∙ sym (q .verdict)) i; digest = (p .digest ∙ sym (q .digest)) i }
+pub tag-unique : (time : ℕ) (readings : List ℕ) (r s : QtDigested) → Tags time readings r → Tags time readings s → r ≡ s
+tag-unique time readings r s p q = λ i. record { verdict = (p .verdict ∙ sym (q .verdict)) i; digest = (p .digest ∙ sym (q .digest)) i }
 
-pub match-unique : (tag : QtDigest) (block : List ℕ) (r s : QtMatched) → Matches tag block r → Matches tag block s → r ≡ s
-match-unique tag block r s p q = λ i. record { verdict = (p .verdict ∙ sym (q .verdict)) i; yes = (p .yes ∙ sym (q .yes)) i }
+pub match-unique : (tag : QtDigest) (time : ℕ) (readings : List ℕ) (r s : QtMatched) → Matches tag time readings r
+    → Matches tag time readings s → r ≡ s
+match-unique tag time readings r s p q = λ i. record { verdict = (p .verdict ∙ sym (q .verdict)) i; yes = (p .yes ∙ sym (q .yes)) i }
 
 pub height-unique : (word r s : ℕ) → Draws word r → Draws word s → r ≡ s
 height-unique word r s p q = p .height ∙ sym (q .height)

@@ -27,13 +27,13 @@ pub record Digests (message : List ℕ) (r : QtDigested) : Type 0 where
   pub verdict : r .verdict ≡ plainVerdict (digestOf message .verdict)
   pub digest : r .digest ≡ plainDigest (digestOf message .bytes)
 
-pub record Tags (block : List ℕ) (r : QtDigested) : Type 0 where
-  pub verdict : r .verdict ≡ plainVerdict (tagOf block .verdict)
-  pub digest : r .digest ≡ plainDigest (tagOf block .tag)
+pub record Tags (time : ℕ) (readings : List ℕ) (r : QtDigested) : Type 0 where
+  pub verdict : r .verdict ≡ plainVerdict (tagOf time readings .verdict)
+  pub digest : r .digest ≡ plainDigest (tagOf time readings .tag)
 
-pub record Matches (tag : QtDigest) (block : List ℕ) (r : QtMatched) : Type 0 where
-  pub verdict : r .verdict ≡ plainVerdict (matchOf (tag .bytes) block .verdict)
-  pub yes : r .yes ≡ matchOf (tag .bytes) block .yes
+pub record Matches (tag : QtDigest) (time : ℕ) (readings : List ℕ) (r : QtMatched) : Type 0 where
+  pub verdict : r .verdict ≡ plainVerdict (matchOf (tag .bytes) time readings .verdict)
+  pub yes : r .yes ≡ matchOf (tag .bytes) time readings .yes
 
 pub record Draws (word r : ℕ) : Type 0 where
   pub height : r ≡ heightOf word

@@ -1,5 +1,6 @@
 //! The C interface (include/quaythistle.h): one export for each public call, named after the call's crate and the call. None has a
 //! `requires`: what C passes within its own rules is answered or refused.
+ghost use mathlib.Core.List.{_++_};
 ghost use Rattle.quaythistle.specs.Pledges.{Digests, Tags, Matches, Draws, Checks, Proves, Applies, Shapes, Saves, Loads, Answers};
 use crate::plain::QtCommand;
 use crate::plain::QtDigest;
@@ -65,12 +66,25 @@ pub extern "C" fn qt_sha256_digest(message: &[u8]) -> QtDigested
     QtDigested { verdict, digest }
 }
 
+// SHA-256 of a message in two parts.
+#[no_mangle]
+pub extern "C" fn qt_sha256_digest_joined<'a>(first: &'a [u8], second: &'a [u8]) -> QtDigested
+    ensures { λ r. ⌜ Digests (now (first .entry) ++ now (second .entry)) r ⌝ }
+{
+    let d = sha256::digest_joined(first, second);
+    let v = d.verdict;
+    let bytes = d.bytes;
+    let verdict = plain::verdict(v);
+    let digest = QtDigest { bytes };
+    QtDigested { verdict, digest }
+}
+
 // A block's tag.
 #[no_mangle]
-pub extern "C" fn qt_labels_tag(block: &[u8]) -> QtDigested
-    ensures { λ r. ⌜ Tags (now (block .entry)) r ⌝ }
+pub extern "C" fn qt_labels_tag(time: u32, readings: &[u8]) -> QtDigested
+    ensures { λ r. ⌜ Tags time (now (readings .entry)) r ⌝ }
 {
-    let t = labels::tag(block);
+    let t = labels::tag(time, readings);
     let v = t.verdict;
     let bytes = t.tag;
     let verdict = plain::verdict(v);
@@ -80,11 +94,11 @@ pub extern "C" fn qt_labels_tag(block: &[u8]) -> QtDigested
 
 // Whether a tag is that of a block.
 #[no_mangle]
-pub extern "C" fn qt_labels_matches(tag: QtDigest, block: &[u8]) -> QtMatched
-    ensures { λ r. ⌜ Matches tag (now (block .entry)) r ⌝ }
+pub extern "C" fn qt_labels_matches(tag: QtDigest, time: u32, readings: &[u8]) -> QtMatched
+    ensures { λ r. ⌜ Matches tag time (now (readings .entry)) r ⌝ }
 {
     let bytes = tag.bytes;
-    let m = labels::matches(bytes, block);
+    let m = labels::matches(bytes, time, readings);
     let v = m.verdict;
     let verdict = plain::verdict(v);
     QtMatched {

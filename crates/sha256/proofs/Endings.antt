@@ -1,5 +1,5 @@
 -- Padding: the number of zeros is FIPS's smallest solution; a padded message has whole blocks; and a copy and two stores
--- into 128 zeros make its end, what follows the message's own whole blocks.
+-- into 128 zeros make its end, what follows the whole blocks of the message's last part.
 -- Assumes nothing.
 use mathlib.Core.Path.{_≡_, ap, _∙_}
 use mathlib.Core.List.{List, [], _∷_, _++_, append-assoc}
@@ -14,7 +14,7 @@ use Rattle.octets.specs.Runs.{part, patch}
 use Rattle.octets.proofs.NumberLaws.{length-be}
 use Rattle.octets.proofs.PartLaws.{part-middle}
 use Rattle.octets.proofs.PatchLaws.{length-patch, set-next}
-use Rattle.sha256.specs.Padding.{zeros, padding, padded, blocks, Ends}
+use Rattle.sha256.specs.Padding.{zeros, padding, paddedAfter, blocks, Ends}
 use Rattle.sha256.specs.Answer.{longest}
 
 -- 5.1.1: k = 7 + 8 * zeros n solves l + 1 + k = 448 mod 512 for l = 8 * n, and no smaller k does
@@ -24,9 +24,14 @@ zeros-solve n = omega arith
 pub zeros-least : (n k : ℕ) → (n * 8 + 1 + k) % 512 ≡ 448 → 7 + 8 * zeros n ≤ k
 zeros-least n k e = omega arith
 
-pub padded-length : (m : List ℕ) → length (padded m) ≡ blocks (length m) * 64
-unfolding padded padding
-padded-length m = simp (length-append, length-replicate) (omega arith)
+-- whole blocks in front do not count
+zeros-after : (n m : ℕ) → n % 64 ≡ 0 → zeros (n + m) ≡ zeros m
+zeros-after n m h = let e : (n + m) % 64 ≡ m % 64 = omega arith in rw e
+
+pub padded-length : (n : ℕ) (m : List ℕ) → n % 64 ≡ 0
+    → length (paddedAfter n m) ≡ length m / 64 * 64 + blocks (length m % 64) * 64
+unfolding paddedAfter padding
+padded-length n m h = simp (length-append, length-replicate, zeros-after n (length m) h) (omega arith)
 
 -- a number below 2 ^ 32 in eight bytes
 short : (l : ℕ) → l < 2 ^ 32 → be 8 l ≡ replicate 4 0 ++ be 4 l
@@ -88,22 +93,24 @@ copied-length m z c ez ec =
     let lz : length z ≡ 128 = ap length ez in
     ap length ec ∙ length-patch z (rest m) 0 (omega (arith, rest-length m)) ∙ lz
 
-pub ending-made : (m z c t : List ℕ) (k : ℕ) → z ≡ replicate 128 0 → length m ≤ longest → k ≡ blocks (length m % 64)
-    → c ≡ patch z 0 (rest m) → t ≡ patch (set c (length m % 64) 128) (k * 64 - 4) (be 4 (length m * 8)) → Ends m t (k * 64)
-unfolding padded padding
-ending-made m z c t k ez h ek ec et =
+pub ending-made : (before : ℕ) (m z c t : List ℕ) (k : ℕ) → z ≡ replicate 128 0 → before % 64 ≡ 0
+    → before + length m ≤ longest → k ≡ blocks (length m % 64) → c ≡ patch z 0 (rest m)
+    → t ≡ patch (set c (length m % 64) 128) (k * 64 - 4) (be 4 ((before + length m) * 8)) → Ends before m t (k * 64)
+unfolding paddedAfter padding
+ending-made before m z c t k ez hb h ek ec et =
     let n = length m in
-    let e : n % 64 + 1 + (zeros n + 4 + 4) ≡ k * 64 = omega arith in
-    let made = ending z (rest m) (be 4 (n * 8)) (n % 64) (k * 64) (zeros n + 4) ez (rest-length m) (length-be 4 (n * 8)) e in
+    let a = before + n in
+    let e : n % 64 + 1 + (zeros a + 4 + 4) ≡ k * 64 = rw (zeros-after before n hb) (omega arith) in
+    let made = ending z (rest m) (be 4 (a * 8)) (n % 64) (k * 64) (zeros a + 4) ez (rest-length m) (length-be 4 (a * 8)) e in
     record {
       size = ap (λ (j : ℕ). j * 64) ek;
       bytes =
           ap (take (k * 64)) (et ∙ rw ec) ∙ made (omega arith)
           ∙ rw (
             rest-all m,
-            drop-append-le (n / 64 * 64) m (padding n) (omega arith),
-            short (n * 8) (omega arith),
-            ← (replicate-append-replicate {A = ℕ} (zeros n) 4 0),
+            drop-append-le (n / 64 * 64) m (padding a) (omega arith),
+            short (a * 8) (omega arith),
+            ← (replicate-append-replicate {A = ℕ} (zeros a) 4 0),
           )
           (simp append-assoc);
     }

@@ -2,20 +2,21 @@
 -- bytes.
 -- Assumes nothing.
 use mathlib.Core.Path.{_≡_, refl, sym, ap, ap₂, _∙_}
-use mathlib.Core.List.{List, [], _∷_, _++_}
-use Prim.Native.Nat.{ℕ, zero, suc, _+_, _-_, _*_, _/_, _%_, _≤_, _<_}
+use mathlib.Core.List.{List, [], _∷_, _++_, append-assoc}
+use Prim.Native.Nat.{ℕ, zero, suc, _+_, _-_, _*_, _/_, _%_, _≤_, _<_, zero-le}
 use native.Mathlib.Numerals.{add-one}
-use native.Mathlib.Nat.{add-zero, add-suc}
+use native.Mathlib.Nat.{zero-add, add-zero, add-suc}
 use native.Mathlib.Omega.{arith}
-use lib.ListN.{length, getD, take, drop, length-drop, length-append}
-use lib.Seq.{take-all, take-suc, take-append-le, drop-append-le, drop-drop}
+use lib.ListN.{length, getD, take, drop, length-drop, length-append, take-append-drop}
+use lib.Seq.{take-all, take-suc, take-append-le, drop-append-le, drop-drop, drop-at, length-take-le}
 use Rattle.octets.specs.Numbers.{be, Bytes}
 use Rattle.octets.specs.Runs.{part, patch}
 use Rattle.octets.proofs.NumberLaws.{length-be}
 use Rattle.octets.proofs.PartLaws.{length-part}
-use Rattle.sha256.specs.Padding.{padding, padded, blocks, block, Ends}
+use Rattle.octets.proofs.PatchLaws.{patch-all}
+use Rattle.sha256.specs.Padding.{padding, padded, paddedAfter, blocks, block, Ends}
 use Rattle.sha256.specs.Constants.{initial}
-use Rattle.sha256.specs.Hash.{sums, compressed, hashed, joined, sha256}
+use Rattle.sha256.specs.Hash.{sums, compressed, hashed, hashValue, After, joined, sha256}
 use Rattle.sha256.proofs.Endings.{front-patch, padded-length}
 
 -- block i, as the code lends it
@@ -54,10 +55,6 @@ unfolding hashed
 hashed-front s m z zero h = refl
 hashed-front s m z (suc i) h = ap₂ compressed (hashed-front s m z i (omega arith)) (block-front m z i h)
 
-front-padded : (s m : List ℕ) → hashed s (padded m) (length m / 64) ≡ hashed s m (length m / 64)
-unfolding padded
-front-padded s m = hashed-front s m (padding (length m)) (length m / 64) (omega arith)
-
 -- blocks i to i + j - 1 are the first j of what is left after the first i
 block-rest : (p : List ℕ) (i j : ℕ) → block (drop (i * 64) p) j ≡ block p (i + j)
 unfolding part
@@ -70,18 +67,90 @@ unfolding hashed
 hashed-rest s p i zero = rw add-zero
 hashed-rest s p i (suc j) = rw add-suc (ap₂ compressed (hashed-rest s p i j) (block-rest p i j))
 
--- the message's whole blocks, then those that end the padded message, as the code lends them
-pub hashed-padded : (s m v t r : List ℕ) (end : ℕ) → v ≡ hashed s m (length m / 64) → Ends m t end
-    → r ≡ hashed v (take (end - 0) t) (length (take (end - 0) t) / 64) → r ≡ hashed s (padded m) (blocks (length m))
-hashed-padded s m v t r end e f g =
-    let n = length m in
-    let p = padded m in
+-- ---- a message in parts
+
+-- whole blocks x, then what follows them
+hashed-after : (x p s : List ℕ) (n j : ℕ) → n % 64 ≡ 0 → After x s n → hashed s p j ≡ hashed initial (x ++ p) (n / 64 + j)
+hashed-after x p s n j h a =
+    let i = n / 64 in
+    let f : s ≡ hashed initial (x ++ p) i = a .value ∙ sym (hashed-front initial x p i (omega (arith, a .size))) in
+    let d : drop (i * 64) (x ++ p) ≡ p = drop-at x p (i * 64) (omega (arith, a .size)) in
+    ap₂ (λ (v q : List ℕ). hashed v q j) f (sym d) ∙ hashed-rest initial (x ++ p) i j
+
+-- nothing comes before a message
+pub after-none : After [] initial 0
+unfolding hashed
+after-none = record { size = refl; value = refl }
+
+one-block : (s t : List ℕ) → length t ≡ 64 → hashed s t 1 ≡ compressed s t
+unfolding hashed part
+one-block s t h = ap (compressed s) (take-all 64 t (omega arith))
+
+-- one more block
+pub after-block : (x y s v : List ℕ) (n : ℕ) → n % 64 ≡ 0 → length y ≡ 64 → After x s n → v ≡ compressed s y
+    → After (x ++ y) v (n + 64)
+after-block x y s v n h l a e =
+    let q : (n + 64) / 64 ≡ n / 64 + 1 = omega arith in
+    record {
+      size = length-append x y ∙ omega (arith, a .size);
+      value = rw q (e ∙ sym (one-block s y l) ∙ hashed-after x y s n 1 h a);
+    }
+
+-- a message's own whole blocks, which are n bytes
+pub after-front : (m s : List ℕ) (n : ℕ) → n ≡ length m / 64 * 64 → s ≡ hashed initial m (length m / 64) → After (take n m) s n
+after-front m s n en e =
+    let q : n / 64 ≡ length m / 64 = omega arith in
+    let l : length (take n m) ≡ n = length-take-le n m (omega arith) in
+    let f = hashed-front initial (take n m) (drop n m) (length m / 64) (omega (arith, l)) in
+    record { size = l; value = rw q (e ∙ ap (λ (k : List ℕ). hashed initial k (length m / 64)) (sym (take-append-drop n m)) ∙ f) }
+
+-- the whole blocks of a message's last part, then those that end the padded message, as the code lends them
+pub hashed-finish : (x m s v t r : List ℕ) (n end : ℕ) → n % 64 ≡ 0 → After x s n → v ≡ hashed s m (length m / 64)
+    → Ends n m t end → r ≡ hashed v (take (end - 0) t) (length (take (end - 0) t) / 64) → r ≡ hashValue (x ++ m)
+unfolding padded paddedAfter
+hashed-finish x m s v t r n end h a e f g =
+    let i = length m / 64 in
+    let j = blocks (length m % 64) in
+    let p = paddedAfter n m in
     let z : end - 0 ≡ end = omega arith in
-    let l : length (drop (n / 64 * 64) p) / 64 ≡ blocks (n % 64) =
-    rw (length-drop (n / 64 * 64) p, padded-length m) (omega arith) in
-    let q : n / 64 + blocks (n % 64) ≡ blocks n = omega arith in
-    let a : v ≡ hashed s p (n / 64) = e ∙ sym (front-padded s m) in
-    g ∙ rw (z, f .bytes, l, a) (hashed-rest s p (n / 64) (blocks (n % 64)) ∙ ap (hashed s p) q)
+    let l : length (drop (i * 64) p) / 64 ≡ j = rw (length-drop (i * 64) p, padded-length n m h) (omega arith) in
+    let w : v ≡ hashed s p i = e ∙ sym (hashed-front s m (padding (n + length m)) i (omega arith)) in
+    let q : n / 64 + (i + j) ≡ blocks (length (x ++ m)) = rw (length-append x m, a .size) (omega arith) in
+    let y : x ++ p ≡ padded (x ++ m) = rw (length-append x m, a .size) (sym (append-assoc x m (padding (n + length m)))) in
+    g ∙ rw (z, f .bytes, l, w) (hashed-rest s p i j ∙ hashed-after x p s n (i + j) h a ∙ ap₂ (hashed initial) y q)
+
+-- ---- two parts a and b, as the code lends them
+
+-- in one block t
+filled : (a b t z : List ℕ) → length a + length b ≡ 64 → length z ≡ 64 → t ≡ patch z 0 (a ++ b) → t ≡ a ++ b
+filled a b t z h l e = e ∙ patch-all z (a ++ b) (l ∙ sym (length-append a b ∙ h))
+
+pub block-filled : (a b t z s r : List ℕ) → length a + length b ≡ 64 → length z ≡ 64 → t ≡ patch z 0 (a ++ b)
+    → r ≡ hashed s t (length t / 64) → r ≡ compressed s (a ++ b)
+block-filled a b t z s r h l e f =
+    let w = filled a b t z h l e in
+    let n : length t ≡ 64 = ap length w ∙ length-append a b ∙ h in
+    let q : length t / 64 ≡ 1 = omega arith in
+    f ∙ rw q (one-block s t n) ∙ ap (compressed s) w
+
+pub front-filled : (a b t z : List ℕ) (k : ℕ) → k ≡ length a + length b → t ≡ patch z 0 (a ++ b) → take (k - 0) t ≡ a ++ b
+front-filled a b t z k h e =
+    let q : k - 0 ≡ k = omega arith in
+    rw (q, e) (front-patch z (a ++ b) 0 k (zero-add (length (a ++ b)) ∙ length-append a b ∙ sym h) zero-le)
+
+-- the block that both have a part in, and what is left of b
+pub both-parts : (x a b : List ℕ) (c : ℕ) → c ≤ length b
+    → (x ++ (a ++ take (c - 0) b)) ++ take (length b - c) (drop c b) ≡ x ++ (a ++ b)
+both-parts x a b c h =
+    let q : c - 0 ≡ c = omega arith in
+    let d : take (length b - c) (drop c b) ≡ drop c b = take-all (length b - c) (drop c b) (simp length-drop (omega arith)) in
+    rw (q, d, append-assoc x (a ++ take c b) (drop c b), append-assoc a (take c b) (drop c b), take-append-drop c b)
+
+-- a's whole blocks, which are n bytes, and what is left of a
+pub front-parts : (a b : List ℕ) (n : ℕ) → n ≤ length a → take n a ++ (take (length a - n) (drop n a) ++ b) ≡ a ++ b
+front-parts a b n h =
+    let d : take (length a - n) (drop n a) ≡ drop n a = take-all (length a - n) (drop n a) (simp length-drop (omega arith)) in
+    rw (d, ← (append-assoc (take n a) (drop n a) b), take-append-drop n a)
 
 -- ---- the words as bytes
 

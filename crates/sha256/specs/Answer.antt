@@ -1,4 +1,5 @@
--- What `digest` answers: the digest of a message of at most 4,096 bytes; for a longer one refusal 11 and 32 zero bytes.
+-- What `digest` answers, and `digest_joined` of the two parts joined: the digest of a message of at most 4,096 bytes; for a longer one
+-- refusal 11 and 32 zero bytes.
 -- Assumes nothing.
 use mathlib.Core.Path.{_≡_}
 use mathlib.Core.Bool.{cond}
@@ -15,10 +16,15 @@ use Rattle.sha256.specs.Hash.{sha256}
 abbrev pub longest : ℕ
 longest = 4096
 
+-- the answers
+abbrev pub digested : List ℕ → Digested
+digested bytes = record { verdict = Done; bytes = bytes }
+
+abbrev pub longMessage : Digested
+longMessage = record { verdict = Refused LongMessage; bytes = replicate 32 0 }
+
 unfoldable pub digestOf : List ℕ → Digested
-digestOf m =
-    cond (leb (length m) longest) (record { verdict = Done; bytes = sha256 m })
-    (record { verdict = Refused LongMessage; bytes = replicate 32 0 })
+digestOf m = cond (leb (length m) longest) (digested (sha256 m)) longMessage
 
 pub record Answers (m : List ℕ) (r : Digested) : Type 0 where
   pub verdict : r .verdict ≡ digestOf m .verdict

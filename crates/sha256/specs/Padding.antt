@@ -28,7 +28,11 @@ blocks n = (n + 72) / 64
 abbrev pub block : List ℕ → ℕ → List ℕ
 block p i = part p (i * 64) 64
 
--- the first `end` bytes of t are the blocks of the padded message that follow the whole blocks of the message m
-pub record Ends (m t : List ℕ) (end : ℕ) : Type 0 where
+-- a message's last part m, padded, where n bytes of the message stand before it
+unfoldable pub paddedAfter : ℕ → List ℕ → List ℕ
+paddedAfter n m = m ++ padding (n + length m)
+
+-- the first `end` bytes of t are the blocks of the padded message that follow the whole blocks of its last part m
+pub record Ends (before : ℕ) (m t : List ℕ) (end : ℕ) : Type 0 where
   pub size : end ≡ blocks (length m % 64) * 64
-  pub bytes : take end t ≡ drop (length m / 64 * 64) (padded m)
+  pub bytes : take end t ≡ drop (length m / 64 * 64) (paddedAfter before m)

@@ -7,14 +7,16 @@ mod tables;
 mod words;
 
 ghost use mathlib.Core.Path.{_≡_};
-ghost use mathlib.Core.List.{List};
-ghost use Prim.Native.Nat.{ℕ, _+_, _/_, _≤_};
+ghost use mathlib.Core.List.{List, _++_};
+ghost use Prim.Native.Nat.{ℕ, _+_, _/_, _%_, _≤_};
+ghost use lib.Dec.{leb};
 ghost use lib.ListN.{length, take, replicate};
-ghost use Rattle.sha256.specs.Constants.{constants, initial};
-ghost use Rattle.sha256.specs.Padding.{padded, blocks, Ends};
+ghost use Rattle.sha256.specs.Constants.{constants};
+ghost use Rattle.octets.specs.Runs.{patch};
+ghost use Rattle.sha256.specs.Padding.{blocks, Ends};
 ghost use Rattle.sha256.specs.Hash.{mixed, schedule, firstSum, secondSum, round, rounds, sums};
-ghost use Rattle.sha256.specs.Hash.{compressed, hashed, joined};
-ghost use Rattle.sha256.specs.Answer.{longest, Answers};
+ghost use Rattle.sha256.specs.Hash.{compressed, hashed, hashValue, After, joined};
+ghost use Rattle.sha256.specs.Answer.{longest, digested, longMessage, Answers};
 
 // The longest message that is digested, in bytes.
 const LONGEST: usize = 4096;
@@ -159,31 +161,108 @@ fn block_count(n: usize) -> usize
     (n + 72) / 64
 }
 
-// 5.1.1: the end of the padded message, after the message's whole blocks, in one or two blocks of t: the message's last
-// bytes, the byte 128, zeros, and the length in bits, of whose eight bytes the first four are 0. Answers their length.
-fn end_blocks(t: &mut [u8], m: &[u8]) -> usize
-    requires { ⌜ (now t ≡ replicate 128 0) × (length (now m) ≤ longest) ⌝ }
-    ensures { λ r. ⌜ Ends (now (m .entry)) (now (t .exit)) r ⌝ }
+// 5.1.1: the end of a padded message that has `before` bytes, whole blocks, in front of its last part m. It stands in one or two
+// blocks of t: m's bytes after m's whole blocks, the byte 128, zeros, and the length in bits, of whose eight bytes the first four
+// are 0. Answers their length.
+fn end_blocks(t: &mut [u8], before: usize, m: &[u8]) -> usize
+    requires { ⌜ (now t ≡ replicate 128 0) × (before % 64 ≡ 0) × (before + length (now m) ≤ longest) ⌝ }
+    ensures { λ r. ⌜ Ends before (now (m .entry)) (now (t .exit)) r ⌝ }
 {
     let n = m.len();
     let rest = n % 64;
     let end = block_count(rest) * 64;
     octets::copy(t, 0, &m[n / 64 * 64..n]);
     t[rest] = 128;
-    octets::put_four(t, end - 4, (n * 8) as u64);
+    octets::put_four(t, end - 4, ((before + n) * 8) as u64);
     end
 }
 
-// 6.2: the hash value of a message. Its whole blocks are read where they stand.
+// 6.2: the hash value of a message with `before` bytes x, whole blocks, in front of its last part m, from the hash value after x.
+// The whole blocks of m are read where they stand.
+fn finish<'a>(k: &'a [u32; 64], s: [u32; 8], before: usize, m: &'a [u8]) -> [u32; 8]
+    requires { ⌜ (now k ≡ constants) × (before % 64 ≡ 0) × (before + length (now m) ≤ longest) ⌝ }
+    ensures { λ r. ⌜ ((x : List ℕ) → After x s before → r ≡ hashValue (x ++ now (m .entry))) ⌝ }
+{
+    let v = absorb(k, s, m);
+    let mut t = [0u8; 128];
+    let end = end_blocks(&mut t, before, m);
+    each_block(k, v, &t[0..end])
+}
+
+// The hash value of a message.
 fn hash(m: &[u8]) -> [u32; 8]
     requires { ⌜ length (now m) ≤ longest ⌝ }
-    ensures { λ r. ⌜ r ≡ hashed initial (padded (now (m .entry))) (blocks (length (now (m .entry)))) ⌝ }
+    ensures { λ r. ⌜ r ≡ hashValue (now (m .entry)) ⌝ }
 {
     let k = tables::table();
-    let s = absorb(&k, tables::INITIAL, m);
-    let mut t = [0u8; 128];
-    let end = end_blocks(&mut t, m);
-    each_block(&k, s, &t[0..end])
+    finish(&k, tables::INITIAL, 0, m)
+}
+
+// a, and b right after it, at the front of a block.
+fn fill(t: &mut [u8], a: &[u8], b: &[u8])
+    requires { ⌜ length (now a) + length (now b) ≤ length (now t) ⌝ }
+    ensures { λ _. ⌜ now (t .exit) ≡ patch (now (t .entry)) 0 (now (a .entry) ++ now (b .entry)) ⌝ }
+{
+    octets::copy(t, 0, a);
+    octets::copy(t, a.len(), b);
+}
+
+// The block that a begins and b ends.
+fn shared_block<'a>(k: &'a [u32; 64], s: [u32; 8], a: &'a [u8], b: &'a [u8]) -> [u32; 8]
+    requires { ⌜ (now k ≡ constants) × (length (now a) + length (now b) ≡ 64) ⌝ }
+    ensures { λ r. ⌜ r ≡ compressed s (now (a .entry) ++ now (b .entry)) ⌝ }
+{
+    let mut t = [0u8; 64];
+    fill(&mut t, a, b);
+    each_block(k, s, &t)
+}
+
+// A message that ends with a and b, which fill no block.
+fn finish_short<'a>(
+    k: &'a [u32; 64],
+    s: [u32; 8],
+    before: usize,
+    a: &'a [u8],
+    b: &'a [u8],
+) -> [u32; 8]
+    requires { ⌜ (now k ≡ constants) × (before % 64 ≡ 0) × (length (now a) + length (now b) ≤ 64)
+        × (before + (length (now a) + length (now b)) ≤ longest) ⌝ }
+    ensures { λ r. ⌜ ((x : List ℕ) → After x s before → r ≡ hashValue (x ++ (now (a .entry) ++ now (b .entry)))) ⌝ }
+{
+    let mut t = [0u8; 64];
+    fill(&mut t, a, b);
+    finish(k, s, before, &t[0..a.len() + b.len()])
+}
+
+// A message that ends with a, less than a block, and b. Only the block that both have a part in is put together.
+fn finish_both<'a>(
+    k: &'a [u32; 64],
+    s: [u32; 8],
+    before: usize,
+    a: &'a [u8],
+    b: &'a [u8],
+) -> [u32; 8]
+    requires { ⌜ (now k ≡ constants) × (before % 64 ≡ 0) × (length (now a) ≤ 64)
+        × (before + (length (now a) + length (now b)) ≤ longest) ⌝ }
+    ensures { λ r. ⌜ ((x : List ℕ) → After x s before → r ≡ hashValue (x ++ (now (a .entry) ++ now (b .entry)))) ⌝ }
+{
+    let cut = 64 - a.len();
+    if b.len() < cut {
+        return finish_short(k, s, before, a, b);
+    }
+    let next = shared_block(k, s, a, &b[0..cut]);
+    finish(k, next, before + 64, &b[cut..b.len()])
+}
+
+// The hash value of a message in two parts.
+fn hash_joined<'a>(a: &'a [u8], b: &'a [u8]) -> [u32; 8]
+    requires { ⌜ length (now a) + length (now b) ≤ longest ⌝ }
+    ensures { λ r. ⌜ r ≡ hashValue (now (a .entry) ++ now (b .entry)) ⌝ }
+{
+    let k = tables::table();
+    let n = a.len() / 64 * 64;
+    let s = absorb(&k, tables::INITIAL, a);
+    finish_both(&k, s, n, &a[n..a.len()], b)
 }
 
 // The word as a wider number.
@@ -204,19 +283,52 @@ fn to_bytes(s: [u32; 8]) -> [u8; 32]
     out
 }
 
+// The answers: a hash value's bytes, and the refusal of a long message.
+fn done(s: [u32; 8]) -> Digested
+    ensures { λ r. ⌜ r ≡ digested (joined s) ⌝ }
+{
+    let bytes = to_bytes(s);
+    Digested {
+        verdict: Verdict::Done,
+        bytes,
+    }
+}
+
+fn long_message() -> Digested
+    ensures { λ r. ⌜ r ≡ longMessage ⌝ }
+{
+    Digested {
+        verdict: Verdict::Refused(Refusal::LongMessage),
+        bytes: [0u8; 32],
+    }
+}
+
 // The digest of a message of at most 4,096 bytes. A longer one is refused.
 pub fn digest(m: &[u8]) -> Digested
     ensures { λ r. ⌜ Answers (now (m .entry)) r ⌝ }
 {
     if m.len() <= LONGEST {
-        let bytes = to_bytes(hash(m));
-        return Digested {
-            verdict: Verdict::Done,
-            bytes,
-        };
+        return done(hash(m));
     }
-    Digested {
-        verdict: Verdict::Refused(Refusal::LongMessage),
-        bytes: [0u8; 32],
+    long_message()
+}
+
+// Do a and b bytes make a message that is not long?
+fn fits(a: usize, b: usize) -> bool
+    ensures { λ r. ⌜ r ≡ leb (a + b) longest ⌝ }
+{
+    if LONGEST < a {
+        return false;
     }
+    b <= LONGEST - a
+}
+
+// The digest of a message in two parts, which stay where they are: that of `first` with `second` right after it.
+pub fn digest_joined<'a>(first: &'a [u8], second: &'a [u8]) -> Digested
+    ensures { λ r. ⌜ Answers (now (first .entry) ++ now (second .entry)) r ⌝ }
+{
+    if fits(first.len(), second.len()) {
+        return done(hash_joined(first, second));
+    }
+    long_message()
 }

@@ -51,7 +51,7 @@ here : {a : List ℕ} {l : List (List ℕ)} → List·Memᴰ a (a ∷ l)
 here = List·Memᴰ·head refl
 
 module _ (H : List ℕ → List ℕ) (H32 : (m : List ℕ) → length (H m) ≡ digestBytes) (M N : List (List ℕ)) where
-  same-message : (m n : List ℕ) → List·Memᴰ m M → List·Memᴰ n N → H m ≡ H n → Clash H M N ⊎ (m ≡ n)
+  pub same-message : (m n : List ℕ) → List·Memᴰ m M → List·Memᴰ n N → H m ≡ H n → Clash H M N ⊎ (m ≡ n)
   same-message m n i j e = go (List-discrete ℕ-discrete m n)
     where
       go : Dec (m ≡ n) → Clash H M N ⊎ (m ≡ n)

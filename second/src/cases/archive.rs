@@ -22,7 +22,7 @@ pub fn column(height: u8, tag: Digest) -> Column {
     Column { height, tag }
 }
 
-/// Blocks with the tags of the letters "A", "B", and so on.
+/// Blocks with the digests of the letters "A", "B", and so on as tags.
 pub fn lettered(heights: &[u8]) -> Vec<Column> {
     let letters = b"ABCDEFGHIJKLMNOPQRSTUVWXYZ".iter();
     let both = heights.iter().zip(letters);

@@ -2,6 +2,7 @@
 
 use super::archive::{command, five, Archive};
 use super::Deck;
+use crate::answers::tagged;
 use crate::block;
 use crate::bytes::{self, unhex};
 use crate::command::{Operation, OPERATIONS};
@@ -80,34 +81,21 @@ pub fn deal(deck: &mut Deck) {
 fn published(deck: &mut Deck) {
     for (text, times, hex) in PUBLISHED {
         let message = text.repeat(times).into_bytes();
-        let tag = bytes::digest(&unhex(hex));
-        let block = message.clone();
-        let digested = Answer {
-            tag,
-            ..Answer::default()
-        };
-        let matched = Answer {
-            yes: 1,
-            ..Answer::default()
-        };
-        deck.put_stated("published", Request::Digest { message }, digested);
-        deck.put_stated("published", Request::Match { tag, block }, matched);
+        let stated = tagged(bytes::digest(&unhex(hex)));
+        deck.put_stated("published", Request::Digest { message }, stated);
     }
+}
+
+/// Bytes that change from place to place and from length to length.
+pub fn varied(length: usize) -> Vec<u8> {
+    (0..length).map(|i| (i * 7 + length) as u8).collect()
 }
 
 fn lengths(deck: &mut Deck) {
     let more = [4098, 5000, 65_536, 65_537, 199_000];
     for length in LENGTHS.into_iter().chain(130..260).chain(more) {
-        let message: Vec<u8> = (0..length).map(|i| (i * 7 + length) as u8).collect();
-        let tag = digest(&message);
-        let mut other = tag;
-        other[length % 32] ^= 1 << (length % 8);
-        let block = message.clone();
+        let message = varied(length);
         deck.put("lengths", Request::Digest { message });
-        for tag in [tag, other, [0; 32]] {
-            let block = block.clone();
-            deck.put("lengths", Request::Match { tag, block });
-        }
     }
 }
 

@@ -11,6 +11,7 @@ pub mod proofs;
 pub mod raw;
 pub mod rows;
 pub mod streams;
+pub mod tags;
 
 use crate::frames::{Answer, Request};
 
@@ -67,8 +68,9 @@ impl<'a> Deck<'a> {
 
 /// The families. Down to the short rows they are the same for every seed and
 /// hold all that the coverage table asks for; then they are random.
-const FAMILIES: [fn(&Plan, &mut Deck); 15] = [
+const FAMILIES: [fn(&Plan, &mut Deck); 17] = [
     |_, deck| known::deal(deck),
+    |_, deck| tags::deal(deck),
     |_, deck| order::deal(deck),
     |_, deck| images::every_header_byte(deck),
     |_, deck| proofs::every_rule(deck),
@@ -83,6 +85,7 @@ const FAMILIES: [fn(&Plan, &mut Deck); 15] = [
     |plan, deck| proofs::random(plan.seed, plan.cases / 4, deck),
     |plan, deck| forged::random(plan.seed, plan.cases / 4, deck),
     |plan, deck| pairs::random(plan.seed, plan.cases / 8, deck),
+    |plan, deck| tags::random(plan.seed, plan.cases / 16, deck),
 ];
 
 /// Deals every call of the plan.

@@ -27,10 +27,10 @@ fn with_fields(call: u8, fields: usize) -> Vec<u8> {
 }
 
 /// Every call with its fields one byte short, and with the fewest there are.
-fn fewest_fields() -> [(u8, usize); 9] {
+fn fewest_fields() -> [(u8, usize); 10] {
     [
         (1, 0),
-        (2, 32),
+        (2, 36),
         (3, 2),
         (4, 36),
         (5, 0),
@@ -38,6 +38,7 @@ fn fewest_fields() -> [(u8, usize); 9] {
         (7, 12),
         (8, 38),
         (9, 78),
+        (10, 4),
     ]
 }
 
@@ -51,6 +52,7 @@ fn ends() -> Vec<(String, Vec<u8>)> {
     add("a length and nothing", vec![0, 0, 0, 9]);
     add("a frame without a call", vec![0, 0, 0, 0]);
     add("call 0", with_fields(0, 100));
+    add("call 11", with_fields(11, 100));
     add("call 200", with_fields(200, 100));
     add("call 255", with_fields(255, 100));
     add("the longest length", vec![255; 400]);
@@ -63,6 +65,7 @@ fn ends() -> Vec<(String, Vec<u8>)> {
             add(&format!("call {call}, short"), short);
         }
     }
+    add("call 2, a tag and no time", with_fields(2, 32));
     all.extend(bad_fields());
     all
 }

@@ -21,14 +21,15 @@ returns c =
     let t = i .before in
     let a = t .before .before .args in
     rw (c .same32 .ensures)
-    (as-match (a .tag) (a .block .now) (t .tag .result) (t .tag .ensures) (sym (i .is-done .ensures) ∙ c .before .before .if1 .taken))
+    (as-match (a .tag) (a .time) (a .readings .now) (t .tag .result) (t .tag .ensures) (sym (i .is-done .ensures) ∙ c .before .before .if1 .taken))
 
 returns-2 : tie.Need-returns-2
 returns-2 c =
     let i = c .before in
     let t = i .before in
     let a = t .before .before .args in
-    as-refused (a .tag) (a .block .now) (t .tag .result) (t .tag .ensures) (sym (i .is-done .ensures) ∙ c .if1 .left)
+    as-refused (a .tag) (a .time) (a .readings .now) (t .tag .result) (t .tag .ensures) (sym (i .is-done .ensures) ∙ c .if1 .left)
 
 pub matches-spec : {M : Type 1} → statement M
-matches-spec = tie.close (tie.spec tag-requires is-done-requires same32-requires returns returns-2)
+matches-spec =
+    tie.close (tie.spec tag-requires is-done-requires same32-requires returns returns-2)

@@ -14,7 +14,7 @@ verdict-requires c κs = search needs
 returns : tie.Need-returns
 returns c =
     let m = c .before in
-    as-matched (m .before .before .before .args .tag) _ _ _ (m .matches .ensures) (c .verdict .ensures)
+    as-matched (m .before .before .before .args .tag) _ _ _ _ (m .matches .ensures) (c .verdict .ensures)
 
 pub qt-labels-matches-spec : {M : Type 1} → statement M
 qt-labels-matches-spec = tie.close (tie.spec matches-requires verdict-requires returns)

@@ -12,7 +12,7 @@ verdict-requires : tie.Need-verdict-requires
 verdict-requires c κs = search needs
 
 returns : tie.Need-returns
-returns c = as-tagged _ _ _ (c .before .before .tag .ensures) (c .verdict .ensures)
+returns c = as-tagged _ _ _ _ (c .before .before .tag .ensures) (c .verdict .ensures)
 
 pub qt-labels-tag-spec : {M : Type 1} → statement M
 qt-labels-tag-spec = tie.close (tie.spec tag-requires verdict-requires returns)

@@ -1,30 +1,19 @@
--- `sha256::hash` is the hash value of the padded message: its whole blocks, then those that end it.
+-- `sha256::hash`: nothing stands in front of a whole message.
 -- Assumes nothing.
-use borrow.Author.Needs.{needs}
+use mathlib.Core.List.{[]}
 use Rattle.sha256.specs.Constants.{initial}
-use Rattle.sha256.proofs.Hashes.{hashed-padded}
+use Rattle.sha256.proofs.Hashes.{after-none}
+use borrow.Author.Needs.{needs}
 use Rattle.sha256.proofs.hash.Statement.{statement}
 use Rattle.sha256.proofs.hash.Tie as tie
 
-absorb-requires : tie.Need-absorb-requires
-absorb-requires c κs = search needs
-
-end-blocks-requires : tie.Need-end-blocks-requires
-end-blocks-requires c κs = search needs
-
-each-block-requires : tie.Need-each-block-requires
-each-block-requires c κs = search needs
+finish-requires : tie.Need-finish-requires
+finish-requires c κs = search needs
 
 returns : tie.Need-returns
 unfolding initial
-returns c =
-    let e = c .before .before .before .before .before in
-    let a = e .before .before in
-    let m = a .before .before .before .before .args .m .now in
-    hashed-padded initial m (a .absorb .result) (e .end-blocks .last .0) (c .each-block .result) (e .end-blocks .result)
-    (a .absorb .ensures) (e .end-blocks .ensures) (c .each-block .ensures)
+returns c = c .finish .ensures [] after-none
 
 pub hash-spec : {M : Type 1} → statement M
 hash-spec =
-    tie.close (tie.spec (search needs) absorb-requires (search needs) end-blocks-requires (search needs)
-    (search needs) (search needs) each-block-requires returns)
+    tie.close (tie.spec (search needs) finish-requires returns)
