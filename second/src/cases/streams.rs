@@ -95,7 +95,7 @@ fn bad_fields() -> Vec<(String, Vec<u8>)> {
     all
 }
 
-/// Each end after nothing and after good calls, with a good call behind it.
+/// Each end after nothing and after good calls; and good calls cut short.
 pub fn streams() -> Vec<Stream> {
     let mut all = Vec::new();
     for (name, end) in ends() {
