@@ -9,7 +9,7 @@ use mathlib.Core.List.{List, [], _∷_, _++_, List·Memᴰ·head}
 use native.Mathlib.Omega.{arith}
 use lib.ListN.{length, drop}
 use lib.Seq.{drop-at}
-use borrow.Author.Tests.{le-leb, le-ltb, lt-ltb}
+use borrow.Author.Tests.{le-ltb, lt-ltb}
 use Rattle.refusals.specs.declared.Verdict.{Verdict}
 use Rattle.refusals.specs.declared.Verdict.the-variants.{Done, Refused}
 use Rattle.refusals.specs.declared.Refusal.the-variants.{LongMessage}
@@ -21,16 +21,11 @@ use Rattle.octets.proofs.NumberLaws.{read-middle}
 use Rattle.octets.proofs.RunLaws.{same-true}
 use Rattle.octets.proofs.PatchLaws.{patch-next, patch-all}
 use Rattle.sha256.specs.Hash.{sha256}
-use Rattle.sha256.specs.Answer.{longest, digestOf}
 use Rattle.sha256.proofs.Hashes.{sha256-length}
 use Rattle.skiplist.specs.Blocks.{zeros}
 use Rattle.skiplist.proofs.ClashLaws.{same-message}
 use Rattle.labels.specs.declared.Tagged.{Tagged}
 use Rattle.labels.specs.Tags.{tagHead, tagMessage, timeBound, BlockClash, mostReadings, tagRules, tagOf, matchOf, Tags, Matches}
-
-pub digest-bytes : (m : List ℕ) → length m ≤ longest → digestOf m .bytes ≡ sha256 m
-unfolding digestOf
-digest-bytes m h = rw (le-leb (length m) longest h)
 
 -- the head's bytes, as the code writes them over seven others
 pub head-written : (d x y z : List ℕ) (time n : ℕ) → length d ≡ 7 → x ≡ patch d 0 (be 1 1) → y ≡ patch x 1 (be 2 (4 + n))

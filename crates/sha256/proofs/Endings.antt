@@ -14,7 +14,7 @@ use Rattle.octets.specs.Runs.{part, patch}
 use Rattle.octets.proofs.NumberLaws.{length-be}
 use Rattle.octets.proofs.PartLaws.{part-middle}
 use Rattle.octets.proofs.PatchLaws.{length-patch, set-next}
-use Rattle.sha256.specs.Padding.{zeros, padding, paddedAfter, blocks, Ends}
+use Rattle.sha256.specs.Padding.{zeros, padding, padded, paddedAfter, blocks, Ends}
 use Rattle.sha256.specs.Answer.{longest}
 
 -- 5.1.1: k = 7 + 8 * zeros n solves l + 1 + k = 448 mod 512 for l = 8 * n, and no smaller k does
@@ -24,14 +24,18 @@ zeros-solve n = omega arith
 pub zeros-least : (n k : ℕ) → (n * 8 + 1 + k) % 512 ≡ 448 → 7 + 8 * zeros n ≤ k
 zeros-least n k e = omega arith
 
+pub padded-length : (m : List ℕ) → length (padded m) ≡ blocks (length m) * 64
+unfolding padded padding
+padded-length m = simp (length-append, length-replicate) (omega arith)
+
 -- whole blocks in front do not count
 zeros-after : (n m : ℕ) → n % 64 ≡ 0 → zeros (n + m) ≡ zeros m
 zeros-after n m h = let e : (n + m) % 64 ≡ m % 64 = omega arith in rw e
 
-pub padded-length : (n : ℕ) (m : List ℕ) → n % 64 ≡ 0
+pub padded-after-length : (n : ℕ) (m : List ℕ) → n % 64 ≡ 0
     → length (paddedAfter n m) ≡ length m / 64 * 64 + blocks (length m % 64) * 64
 unfolding paddedAfter padding
-padded-length n m h = simp (length-append, length-replicate, zeros-after n (length m) h) (omega arith)
+padded-after-length n m h = simp (length-append, length-replicate, zeros-after n (length m) h) (omega arith)
 
 -- a number below 2 ^ 32 in eight bytes
 short : (l : ℕ) → l < 2 ^ 32 → be 8 l ≡ replicate 4 0 ++ be 4 l

@@ -17,7 +17,7 @@ use Rattle.octets.proofs.PatchLaws.{patch-all}
 use Rattle.sha256.specs.Padding.{padding, padded, paddedAfter, blocks, block, Ends}
 use Rattle.sha256.specs.Constants.{initial}
 use Rattle.sha256.specs.Hash.{sums, compressed, hashed, hashValue, After, joined, sha256}
-use Rattle.sha256.proofs.Endings.{front-patch, padded-length}
+use Rattle.sha256.proofs.Endings.{front-patch, padded-after-length}
 
 -- block i, as the code lends it
 abbrev pub lent : List ℕ → ℕ → List ℕ
@@ -113,7 +113,7 @@ hashed-finish x m s v t r n end h a e f g =
     let j = blocks (length m % 64) in
     let p = paddedAfter n m in
     let z : end - 0 ≡ end = omega arith in
-    let l : length (drop (i * 64) p) / 64 ≡ j = rw (length-drop (i * 64) p, padded-length n m h) (omega arith) in
+    let l : length (drop (i * 64) p) / 64 ≡ j = rw (length-drop (i * 64) p, padded-after-length n m h) (omega arith) in
     let w : v ≡ hashed s p i = e ∙ sym (hashed-front s m (padding (n + length m)) i (omega arith)) in
     let q : n / 64 + (i + j) ≡ blocks (length (x ++ m)) = rw (length-append x m, a .size) (omega arith) in
     let y : x ++ p ≡ padded (x ++ m) = rw (length-append x m, a .size) (sym (append-assoc x m (padding (n + length m)))) in

@@ -217,7 +217,7 @@ fn shared_block<'a>(k: &'a [u32; 64], s: [u32; 8], a: &'a [u8], b: &'a [u8]) -> 
     each_block(k, s, &t)
 }
 
-// A message that ends with a and b, which fill no block.
+// A message that ends with a and b, at most a block together.
 fn finish_short<'a>(
     k: &'a [u32; 64],
     s: [u32; 8],
@@ -234,7 +234,7 @@ fn finish_short<'a>(
     finish(k, s, before, &t[0..a.len() + b.len()])
 }
 
-// A message that ends with a, less than a block, and b. Only the block that both have a part in is put together.
+// A message that ends with a, at most a block, and b. Only the block that both have a part in is put together.
 fn finish_both<'a>(
     k: &'a [u32; 64],
     s: [u32; 8],

@@ -1,9 +1,8 @@
 -- `labels::hashed_joined` meets its contract: two parts that are not long together are not refused.
 -- Assumes nothing.
-use mathlib.Core.Path.{_∙_}
 use mathlib.Core.List.{_++_}
 use lib.ListN.{length-append}
-use Rattle.labels.proofs.TagLaws.{digest-bytes}
+use Rattle.sha256.proofs.Answers.{answered}
 use borrow.Author.Needs.{needs}
 use Rattle.labels.proofs.hashed_joined.Statement.{statement}
 use Rattle.labels.proofs.hashed_joined.Tie as tie
@@ -15,8 +14,8 @@ returns : tie.Need-returns
 returns c =
     let s = c .before .before .before .before in
     let a = s .args in
-    c .before .digest-joined .ensures .bytes
-    ∙ digest-bytes (a .first .now ++ a .second .now) (rw (length-append (a .first .now) (a .second .now)) (s .pre))
+    answered (a .first .now ++ a .second .now) _ (c .before .digest-joined .ensures)
+    (rw (length-append (a .first .now) (a .second .now)) (s .pre)) .1
 
 pub hashed-joined-spec : {M : Type 1} → statement M
 hashed-joined-spec =
