@@ -1,6 +1,8 @@
 pub mod Digits
 pub mod Rotations
 pub mod Schedules
+pub mod Windows
+pub mod Picks
 pub mod Rounds
 pub mod Endings
 pub mod Hashes

@@ -8,14 +8,15 @@ mod words;
 
 ghost use mathlib.Core.Path.{_≡_};
 ghost use mathlib.Core.List.{List, _++_};
-ghost use Prim.Native.Nat.{ℕ, _+_, _/_, _%_, _≤_};
+ghost use Prim.Native.Nat.{ℕ, _+_, _/_, _%_, _≤_, _<_};
 ghost use lib.Dec.{leb};
-ghost use lib.ListN.{length, take, replicate};
+ghost use lib.ListN.{length, getD, replicate};
 ghost use Rattle.sha256.specs.Constants.{constants};
 ghost use Rattle.octets.specs.Runs.{patch};
 ghost use Rattle.sha256.specs.Padding.{blocks, Ends};
 ghost use Rattle.sha256.specs.Hash.{mixed, schedule, firstSum, secondSum, round, rounds, sums};
 ghost use Rattle.sha256.specs.Hash.{compressed, hashed, hashValue, After, joined};
+ghost use Rattle.sha256.specs.Window.{Before};
 ghost use Rattle.sha256.specs.Answer.{longest, digested, longMessage, Answers};
 
 // The longest message that is digested, in bytes.
@@ -36,23 +37,13 @@ fn next_word(w2: u32, w7: u32, w15: u32, w16: u32) -> u32
     wrapping_add_u32(b, w16)
 }
 
-fn load(b: &[u8]) -> [u32; 64]
+fn load(b: &[u8]) -> [u32; 16]
     requires { ⌜ length (now b) ≡ 64 ⌝ }
-    ensures { λ r. ⌜ take 16 r ≡ schedule (now (b .entry)) 16 ⌝ }
+    ensures { λ r. ⌜ r ≡ schedule (now (b .entry)) 16 ⌝ }
 {
-    let mut w = [0u32; 64];
+    let mut w = [0u32; 16];
     for t in 0..16 {
         w[t] = octets::four_at(b, t * 4) as u32;
-    }
-    w
-}
-
-fn expand(first: [u32; 64]) -> [u32; 64]
-    ensures { λ r. ⌜ ((b : List ℕ) → take 16 first ≡ schedule b 16 → r ≡ schedule b 64) ⌝ }
-{
-    let mut w = first;
-    for t in 16..64 {
-        w[t] = next_word(w[t - 2], w[t - 7], w[t - 15], w[t - 16]);
     }
     w
 }
@@ -83,19 +74,97 @@ fn one_round(s: [u32; 8], k: u32, w: u32) -> [u32; 8]
     [a, s[0], s[1], s[2], e, s[4], s[5], s[6]]
 }
 
-// Rounds t to t + 7.
-fn eight_rounds<'a>(k: &'a [u32; 64], w: &'a [u32; 64], s: [u32; 8], t: usize) -> [u32; 8]
-    requires { ⌜ (now k ≡ constants) × (t + 8 ≤ 64) ⌝ }
-    ensures { λ r. ⌜ ((s₀ : List ℕ) → s ≡ rounds (now (w .entry)) s₀ t → r ≡ rounds (now (w .entry)) s₀ (t + 8)) ⌝ }
+// Rounds 0 to 15, with the block's own words.
+fn first_rounds(s: [u32; 8], w: [u32; 16]) -> [u32; 8]
+    ensures { λ r. ⌜ r ≡ rounds w s 16 ⌝ }
 {
-    let s = one_round(s, k[t], w[t]);
-    let s = one_round(s, k[t + 1], w[t + 1]);
-    let s = one_round(s, k[t + 2], w[t + 2]);
-    let s = one_round(s, k[t + 3], w[t + 3]);
-    let s = one_round(s, k[t + 4], w[t + 4]);
-    let s = one_round(s, k[t + 5], w[t + 5]);
-    let s = one_round(s, k[t + 6], w[t + 6]);
-    one_round(s, k[t + 7], w[t + 7])
+    let s = one_round(s, tables::constant(0), w[0]);
+    let s = one_round(s, tables::constant(1), w[1]);
+    let s = one_round(s, tables::constant(2), w[2]);
+    let s = one_round(s, tables::constant(3), w[3]);
+    let s = one_round(s, tables::constant(4), w[4]);
+    let s = one_round(s, tables::constant(5), w[5]);
+    let s = one_round(s, tables::constant(6), w[6]);
+    let s = one_round(s, tables::constant(7), w[7]);
+    let s = one_round(s, tables::constant(8), w[8]);
+    let s = one_round(s, tables::constant(9), w[9]);
+    let s = one_round(s, tables::constant(10), w[10]);
+    let s = one_round(s, tables::constant(11), w[11]);
+    let s = one_round(s, tables::constant(12), w[12]);
+    let s = one_round(s, tables::constant(13), w[13]);
+    let s = one_round(s, tables::constant(14), w[14]);
+    one_round(s, tables::constant(15), w[15])
+}
+
+// The working variables before a round, and the sixteen words of the schedule before that round's own.
+struct Window {
+    s: [u32; 8],
+    w: [u32; 16],
+}
+
+// A round from 16 on, with its constant. Its word is made of the sixteen before it and takes the place of the first; the window turns
+// by one, so that the newest word is last again.
+fn step(x: Window, k: u32) -> Window
+    ensures { λ r. ⌜ ((b v : List ℕ) (t : ℕ) → 16 ≤ t → t < 64 → k ≡ getD constants t 0
+        → Before b v t (x .s) (x .w) → Before b v (t + 1) (r .s) (r .w)) ⌝ }
+{
+    let s = x.s;
+    let mut w = x.w;
+    w[0] = next_word(w[14], w[9], w[1], w[0]);
+    let s = one_round(s, k, w[0]);
+    let w = [
+        w[1],
+        w[2],
+        w[3],
+        w[4],
+        w[5],
+        w[6],
+        w[7],
+        w[8],
+        w[9],
+        w[10],
+        w[11],
+        w[12],
+        w[13],
+        w[14],
+        w[15],
+        w[0],
+    ];
+    Window { s, w }
+}
+
+// Rounds t to t + 15, from 16 on.
+fn sixteen_rounds(x: Window, t: usize) -> Window
+    requires { ⌜ (16 ≤ t) × (t + 16 ≤ 64) ⌝ }
+    ensures { λ r. ⌜ ((b v : List ℕ) → Before b v t (x .s) (x .w) → Before b v (t + 16) (r .s) (r .w)) ⌝ }
+{
+    let x = step(x, tables::constant(t));
+    let x = step(x, tables::constant(t + 1));
+    let x = step(x, tables::constant(t + 2));
+    let x = step(x, tables::constant(t + 3));
+    let x = step(x, tables::constant(t + 4));
+    let x = step(x, tables::constant(t + 5));
+    let x = step(x, tables::constant(t + 6));
+    let x = step(x, tables::constant(t + 7));
+    let x = step(x, tables::constant(t + 8));
+    let x = step(x, tables::constant(t + 9));
+    let x = step(x, tables::constant(t + 10));
+    let x = step(x, tables::constant(t + 11));
+    let x = step(x, tables::constant(t + 12));
+    let x = step(x, tables::constant(t + 13));
+    let x = step(x, tables::constant(t + 14));
+    step(x, tables::constant(t + 15))
+}
+
+// Rounds 16 to 63, from the working variables after the first sixteen and the block's own words.
+fn later_rounds(s: [u32; 8], w: [u32; 16]) -> [u32; 8]
+    ensures { λ r. ⌜ ((b v : List ℕ) → Before b v 16 s w → r ≡ rounds (schedule b 64) v 64) ⌝ }
+{
+    let mut x = Window { s, w };
+    for i in 1..4 {
+        x = sixteen_rounds(x, i * 16);
+    }
+    x.s
 }
 
 // 6.2.2, 4: the next hash value.
@@ -113,44 +182,39 @@ fn add_states(s: [u32; 8], v: [u32; 8]) -> [u32; 8]
     [a, b, c, d, e, f, g, h]
 }
 
-// 6.2.2, 1 to 4, for one block. No other function knows how the schedule is held.
-fn compress<'a>(k: &'a [u32; 64], s: [u32; 8], b: &'a [u8]) -> [u32; 8]
-    requires { ⌜ (now k ≡ constants) × (length (now b) ≡ 64) ⌝ }
+// 6.2.2, 1 to 4, for one block. Only sixteen words of the schedule are held.
+fn compress(s: [u32; 8], b: &[u8]) -> [u32; 8]
+    requires { ⌜ length (now b) ≡ 64 ⌝ }
     ensures { λ r. ⌜ r ≡ compressed s (now (b .entry)) ⌝ }
 {
-    let w = expand(load(b));
-    let mut v = s;
-    for i in 0..8 {
-        let next = eight_rounds(k, &w, v, i * 8);
-        v = next;
-    }
+    let w = load(b);
+    let first = first_rounds(s, w);
+    let v = later_rounds(first, w);
     add_states(s, v)
 }
 
 // 6.2.2: the whole blocks of b, one after the other. What is left of b is not read.
-fn each_block<'a>(k: &'a [u32; 64], start: [u32; 8], b: &'a [u8]) -> [u32; 8]
-    requires { ⌜ now k ≡ constants ⌝ }
+fn each_block(start: [u32; 8], b: &[u8]) -> [u32; 8]
     ensures { λ r. ⌜ r ≡ hashed start (now (b .entry)) (length (now (b .entry)) / 64) ⌝ }
 {
     let n = b.len() / 64;
     let mut s = start;
     for i in 0..n {
         let at = i * 64;
-        let next = compress(k, s, &b[at..at + 64]);
+        let next = compress(s, &b[at..at + 64]);
         s = next;
     }
     s
 }
 
 // The same, and no pass is entered for a message without a whole block, as nearly all are that a label hashes.
-fn absorb<'a>(k: &'a [u32; 64], start: [u32; 8], b: &'a [u8]) -> [u32; 8]
-    requires { ⌜ now k ≡ constants ⌝ }
+fn absorb(start: [u32; 8], b: &[u8]) -> [u32; 8]
     ensures { λ r. ⌜ r ≡ hashed start (now (b .entry)) (length (now (b .entry)) / 64) ⌝ }
 {
     if b.len() < 64 {
         return start;
     }
-    each_block(k, start, b)
+    each_block(start, b)
 }
 
 // How many blocks a message of n bytes has when padded.
@@ -179,14 +243,14 @@ fn end_blocks(t: &mut [u8], before: usize, m: &[u8]) -> usize
 
 // 6.2: the hash value of a message with `before` bytes x, whole blocks, in front of its last part m, from the hash value after x.
 // The whole blocks of m are read where they stand.
-fn finish<'a>(k: &'a [u32; 64], s: [u32; 8], before: usize, m: &'a [u8]) -> [u32; 8]
-    requires { ⌜ (now k ≡ constants) × (before % 64 ≡ 0) × (before + length (now m) ≤ longest) ⌝ }
+fn finish(s: [u32; 8], before: usize, m: &[u8]) -> [u32; 8]
+    requires { ⌜ (before % 64 ≡ 0) × (before + length (now m) ≤ longest) ⌝ }
     ensures { λ r. ⌜ ((x : List ℕ) → After x s before → r ≡ hashValue (x ++ now (m .entry))) ⌝ }
 {
-    let v = absorb(k, s, m);
+    let v = absorb(s, m);
     let mut t = [0u8; 128];
     let end = end_blocks(&mut t, before, m);
-    each_block(k, v, &t[0..end])
+    each_block(v, &t[0..end])
 }
 
 // The hash value of a message.
@@ -194,8 +258,7 @@ fn hash(m: &[u8]) -> [u32; 8]
     requires { ⌜ length (now m) ≤ longest ⌝ }
     ensures { λ r. ⌜ r ≡ hashValue (now (m .entry)) ⌝ }
 {
-    let k = tables::table();
-    finish(&k, tables::INITIAL, 0, m)
+    finish(tables::INITIAL, 0, m)
 }
 
 // a, and b right after it, at the front of a block.
@@ -208,50 +271,38 @@ fn fill(t: &mut [u8], a: &[u8], b: &[u8])
 }
 
 // The block that a begins and b ends.
-fn shared_block<'a>(k: &'a [u32; 64], s: [u32; 8], a: &'a [u8], b: &'a [u8]) -> [u32; 8]
-    requires { ⌜ (now k ≡ constants) × (length (now a) + length (now b) ≡ 64) ⌝ }
+fn shared_block<'a>(s: [u32; 8], a: &'a [u8], b: &'a [u8]) -> [u32; 8]
+    requires { ⌜ length (now a) + length (now b) ≡ 64 ⌝ }
     ensures { λ r. ⌜ r ≡ compressed s (now (a .entry) ++ now (b .entry)) ⌝ }
 {
     let mut t = [0u8; 64];
     fill(&mut t, a, b);
-    each_block(k, s, &t)
+    each_block(s, &t)
 }
 
 // A message that ends with a and b, at most a block together.
-fn finish_short<'a>(
-    k: &'a [u32; 64],
-    s: [u32; 8],
-    before: usize,
-    a: &'a [u8],
-    b: &'a [u8],
-) -> [u32; 8]
-    requires { ⌜ (now k ≡ constants) × (before % 64 ≡ 0) × (length (now a) + length (now b) ≤ 64)
+fn finish_short<'a>(s: [u32; 8], before: usize, a: &'a [u8], b: &'a [u8]) -> [u32; 8]
+    requires { ⌜ (before % 64 ≡ 0) × (length (now a) + length (now b) ≤ 64)
         × (before + (length (now a) + length (now b)) ≤ longest) ⌝ }
     ensures { λ r. ⌜ ((x : List ℕ) → After x s before → r ≡ hashValue (x ++ (now (a .entry) ++ now (b .entry)))) ⌝ }
 {
     let mut t = [0u8; 64];
     fill(&mut t, a, b);
-    finish(k, s, before, &t[0..a.len() + b.len()])
+    finish(s, before, &t[0..a.len() + b.len()])
 }
 
 // A message that ends with a, at most a block, and b. Only the block that both have a part in is put together.
-fn finish_both<'a>(
-    k: &'a [u32; 64],
-    s: [u32; 8],
-    before: usize,
-    a: &'a [u8],
-    b: &'a [u8],
-) -> [u32; 8]
-    requires { ⌜ (now k ≡ constants) × (before % 64 ≡ 0) × (length (now a) ≤ 64)
+fn finish_both<'a>(s: [u32; 8], before: usize, a: &'a [u8], b: &'a [u8]) -> [u32; 8]
+    requires { ⌜ (before % 64 ≡ 0) × (length (now a) ≤ 64)
         × (before + (length (now a) + length (now b)) ≤ longest) ⌝ }
     ensures { λ r. ⌜ ((x : List ℕ) → After x s before → r ≡ hashValue (x ++ (now (a .entry) ++ now (b .entry)))) ⌝ }
 {
     let cut = 64 - a.len();
     if b.len() < cut {
-        return finish_short(k, s, before, a, b);
+        return finish_short(s, before, a, b);
     }
-    let next = shared_block(k, s, a, &b[0..cut]);
-    finish(k, next, before + 64, &b[cut..b.len()])
+    let next = shared_block(s, a, &b[0..cut]);
+    finish(next, before + 64, &b[cut..b.len()])
 }
 
 // The hash value of a message in two parts.
@@ -259,10 +310,9 @@ fn hash_joined<'a>(a: &'a [u8], b: &'a [u8]) -> [u32; 8]
     requires { ⌜ length (now a) + length (now b) ≤ longest ⌝ }
     ensures { λ r. ⌜ r ≡ hashValue (now (a .entry) ++ now (b .entry)) ⌝ }
 {
-    let k = tables::table();
     let n = a.len() / 64 * 64;
-    let s = absorb(&k, tables::INITIAL, a);
-    finish_both(&k, s, n, &a[n..a.len()], b)
+    let s = absorb(tables::INITIAL, a);
+    finish_both(s, n, &a[n..a.len()], b)
 }
 
 // The word as a wider number.

@@ -1,5 +1,7 @@
 // FIPS 180-4's constants.
 ghost use mathlib.Core.Path.{_≡_};
+ghost use Prim.Native.Nat.{_<_};
+ghost use lib.ListN.{getD};
 ghost use Rattle.sha256.specs.Constants.{constants};
 
 // 4.2.2.
@@ -70,6 +72,80 @@ const K: [u32; 64] = [
     0xc671_78f2,
 ];
 
+// The constant of round t. A constant array is laid out on the stack where its index is not known to the compiler; in each arm it is, and
+// the constant stands in the code.
+pub fn constant(t: usize) -> u32
+    ensures { λ r. ⌜ (t < 64 → r ≡ getD constants t 0) ⌝ }
+{
+    let k = K;
+    match t {
+        0 => k[0],
+        1 => k[1],
+        2 => k[2],
+        3 => k[3],
+        4 => k[4],
+        5 => k[5],
+        6 => k[6],
+        7 => k[7],
+        8 => k[8],
+        9 => k[9],
+        10 => k[10],
+        11 => k[11],
+        12 => k[12],
+        13 => k[13],
+        14 => k[14],
+        15 => k[15],
+        16 => k[16],
+        17 => k[17],
+        18 => k[18],
+        19 => k[19],
+        20 => k[20],
+        21 => k[21],
+        22 => k[22],
+        23 => k[23],
+        24 => k[24],
+        25 => k[25],
+        26 => k[26],
+        27 => k[27],
+        28 => k[28],
+        29 => k[29],
+        30 => k[30],
+        31 => k[31],
+        32 => k[32],
+        33 => k[33],
+        34 => k[34],
+        35 => k[35],
+        36 => k[36],
+        37 => k[37],
+        38 => k[38],
+        39 => k[39],
+        40 => k[40],
+        41 => k[41],
+        42 => k[42],
+        43 => k[43],
+        44 => k[44],
+        45 => k[45],
+        46 => k[46],
+        47 => k[47],
+        48 => k[48],
+        49 => k[49],
+        50 => k[50],
+        51 => k[51],
+        52 => k[52],
+        53 => k[53],
+        54 => k[54],
+        55 => k[55],
+        56 => k[56],
+        57 => k[57],
+        58 => k[58],
+        59 => k[59],
+        60 => k[60],
+        61 => k[61],
+        62 => k[62],
+        _ => k[63],
+    }
+}
+
 // 5.3.3.
 pub const INITIAL: [u32; 8] = [
     0x6a09_e667,
@@ -81,10 +157,3 @@ pub const INITIAL: [u32; 8] = [
     0x1f83_d9ab,
     0x5be0_cd19,
 ];
-
-// The constants as a value, taken once and lent: a constant that is indexed in a loop is copied there at every turn.
-pub fn table() -> [u32; 64]
-    ensures { λ r. ⌜ r ≡ constants ⌝ }
-{
-    K
-}

@@ -9,10 +9,10 @@ use Rattle.sha256.proofs.each_block.Statement.{statement}
 use Rattle.sha256.proofs.each_block.Tie as tie
 
 abbrev Inv-loop : tie.InvT-loop
-Inv-loop k b n s₀ i₀ s i = (i ≤ n) × (s ≡ hashed s₀ b i)
+Inv-loop b n s₀ i₀ s i = (i ≤ n) × (s ≡ hashed s₀ b i)
 
 abbrev μ-loop : tie.MeasureT-loop
-μ-loop k b n s₀ i₀ s i = n - i
+μ-loop b n s₀ i₀ s i = n - i
 
 loop-holds : tie.Need-loop-holds Inv-loop μ-loop
 unfolding hashed
@@ -22,7 +22,7 @@ compress-requires : tie.Need-compress-requires Inv-loop μ-loop
 compress-requires c κs =
     let l = c .before .before in
     let s = l .before .before in
-    (s .pre, lent-length (s .args .b .now) (l .loop .i) (c .before .loop-test .taken))
+    lent-length (s .args .b .now) (l .loop .i) (c .before .loop-test .taken)
 
 loop-again : tie.Need-loop-again Inv-loop μ-loop
 loop-again c =

@@ -20,7 +20,7 @@ returns c =
     let a = e .before .before in
     let s = a .before .before in
     λ x q. hashed-finish x (s .args .m .now) (s .args .s) (a .absorb .result) (e .end-blocks .last .0) (c .each-block .result)
-    (s .args .before) (e .end-blocks .result) (s .pre .1) q (a .absorb .ensures) (e .end-blocks .ensures) (c .each-block .ensures)
+    (s .args .before) (e .end-blocks .result) (s .pre .0) q (a .absorb .ensures) (e .end-blocks .ensures) (c .each-block .ensures)
 
 pub finish-spec : {M : Type 1} → statement M
 finish-spec =

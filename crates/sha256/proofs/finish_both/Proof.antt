@@ -36,7 +36,7 @@ returns-2 c =
     length-append a (take (k - 0) b) ∙ omega (arith, length-take-le (k - 0) b (omega arith)) in
     λ x q.
     c .finish .ensures (x ++ (a ++ take (k - 0) b))
-    (after-block x (a ++ take (k - 0) b) (s .args .s) (h .shared-block .result) (s .args .before) (s .pre .1) l q (h .shared-block .ensures))
+    (after-block x (a ++ take (k - 0) b) (s .args .s) (h .shared-block .result) (s .args .before) (s .pre .0) l q (h .shared-block .ensures))
     ∙ ap hashValue (both-parts x a b k (e .if1 .left))
 
 pub finish-both-spec : {M : Type 1} → statement M

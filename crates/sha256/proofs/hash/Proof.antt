@@ -16,4 +16,4 @@ returns c = c .finish .ensures [] after-none
 
 pub hash-spec : {M : Type 1} → statement M
 hash-spec =
-    tie.close (tie.spec (search needs) finish-requires returns)
+    tie.close (tie.spec finish-requires returns)

@@ -20,8 +20,8 @@ absorb-requires c κs = search needs
 returns : tie.Need-returns
 unfolding initial
 returns c =
-    let v = c .before .before .before in
-    let s = v .before .before .before .before .before in
+    let v = c .before .before in
+    let s = v .before .before .before in
     let a = s .args .a .now in
     let n = length a / 64 * 64 in
     c .finish-both .ensures (take n a) (after-front a (v .absorb .result) n refl (v .absorb .ensures))
@@ -29,5 +29,5 @@ returns c =
 
 pub hash-joined-spec : {M : Type 1} → statement M
 hash-joined-spec =
-    tie.close (tie.spec (search needs) (search needs) absorb-requires (search needs) (search needs)
+    tie.close (tie.spec (search needs) absorb-requires (search needs) (search needs)
     (search needs) finish-both-requires returns)

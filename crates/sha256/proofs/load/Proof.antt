@@ -11,7 +11,7 @@ use Rattle.sha256.proofs.load.Statement.{statement}
 use Rattle.sha256.proofs.load.Tie as tie
 
 abbrev Inv-loop : tie.InvT-loop
-Inv-loop b w₀ t₀ w t = (t ≤ 16) × (length w ≡ 64) × (take t w ≡ schedule b t)
+Inv-loop b w₀ t₀ w t = (t ≤ 16) × (length w ≡ 16) × (take t w ≡ schedule b t)
 
 abbrev μ-loop : tie.MeasureT-loop
 μ-loop b w₀ t₀ w t = 16 - t
@@ -34,7 +34,7 @@ returns : tie.Need-returns Inv-loop μ-loop
 returns c =
     let l = c .before in
     let b = l .before .before .args .b .now in
-    loaded b (l .loop .w) (l .loop .t) (l .loop .inv .0) (c .loop-test .left) (l .loop .inv .2)
+    loaded b (l .loop .w) (l .loop .t) (l .loop .inv .1) (l .loop .inv .0) (c .loop-test .left) (l .loop .inv .2)
 
 pub load-spec : {M : Type 1} → statement M
 load-spec =

@@ -16,7 +16,7 @@ returns : tie.Need-returns
 returns c =
     let f = c .before .before .before in
     let s = f .before .before .before .before in
-    block-filled (s .args .a .now) (s .args .b .now) (f .fill .last .0) _ (s .args .s) (c .each-block .result) (s .pre .1) refl
+    block-filled (s .args .a .now) (s .args .b .now) (f .fill .last .0) _ (s .args .s) (c .each-block .result) (s .pre) refl
     (f .fill .ensures) (c .each-block .ensures)
 
 pub shared-block-spec : {M : Type 1} → statement M
