@@ -4,6 +4,7 @@ ghost use mathlib.Core.List.{_∷_, [], _++_};
 ghost use Prim.Native.Nat.{_+_, _≤_};
 ghost use lib.ListN.{length};
 ghost use Rattle.octets.specs.Numbers.{be};
+ghost use Rattle.octets.specs.Runs.{patch};
 ghost use Rattle.sha256.specs.Hash.{sha256};
 ghost use Rattle.sha256.specs.Answer.{longest};
 ghost use Rattle.skiplist.specs.Label.{labelOf};
@@ -119,47 +120,42 @@ fn hashed_joined<'a>(first: &'a [u8], second: &'a [u8]) -> [u8; 32]
     d.bytes
 }
 
-fn of_byte(x: u8) -> [u8; 32]
-    ensures { λ r. ⌜ r ≡ sha256 (x ∷ []) ⌝ }
+// The digest of a message that is not long, put into m.
+fn put_hashed<'a>(m: &'a mut [u8], at: usize, x: &'a [u8])
+    requires { ⌜ (at + 32 ≤ length (now m)) × (length (now x) ≤ longest) ⌝ }
+    ensures { λ _. ⌜ now (m .exit) ≡ patch (now (m .entry)) at (sha256 (now (x .entry))) ⌝ }
 {
-    let m = [x];
-    hashed(&m)
+    let d = hashed(x);
+    octets::copy(m, at, &d);
 }
 
-fn of_number(n: u64) -> [u8; 32]
-    ensures { λ r. ⌜ r ≡ sha256 (be 4 n) ⌝ }
+fn put_byte(m: &mut [u8], at: usize, x: u8)
+    requires { ⌜ at + 32 ≤ length (now m) ⌝ }
+    ensures { λ _. ⌜ now (m .exit) ≡ patch (now (m .entry)) at (sha256 (x ∷ [])) ⌝ }
 {
-    let mut m = [0u8; 4];
-    octets::put_four(&mut m, 0, n);
-    hashed(&m)
+    let x = [x];
+    put_hashed(m, at, &x);
+}
+
+fn put_number(m: &mut [u8], at: usize, n: u64)
+    requires { ⌜ at + 32 ≤ length (now m) ⌝ }
+    ensures { λ _. ⌜ now (m .exit) ≡ patch (now (m .entry)) at (sha256 (be 4 n)) ⌝ }
+{
+    let mut x = [0u8; 4];
+    octets::put_four(&mut x, 0, n);
+    put_hashed(m, at, &x);
 }
 
 // The digest of 32 bytes, or of the ONE byte 0 where there is nothing.
-fn of_message(nothing: bool, bytes: [u8; 32]) -> [u8; 32]
-    ensures { λ r. ⌜ r ≡ sha256 (messageOf nothing bytes) ⌝ }
+fn put_message(m: &mut [u8], at: usize, nothing: bool, bytes: [u8; 32])
+    requires { ⌜ at + 32 ≤ length (now m) ⌝ }
+    ensures { λ _. ⌜ now (m .exit) ≡ patch (now (m .entry)) at (sha256 (messageOf nothing bytes)) ⌝ }
 {
     if nothing {
-        return of_byte(0);
+        put_byte(m, at, 0);
+    } else {
+        put_hashed(m, at, &bytes);
     }
-    hashed(&bytes)
-}
-
-fn join(m: &mut [u8], a: [u8; 32], b: [u8; 32], c: [u8; 32], d: [u8; 32])
-    requires { ⌜ (length (now m) ≡ 128) × (length a ≡ 32) × (length b ≡ 32) × (length c ≡ 32) × (length d ≡ 32) ⌝ }
-    ensures { λ _. ⌜ now (m .exit) ≡ a ++ (b ++ (c ++ d)) ⌝ }
-{
-    octets::copy(m, 0, &a);
-    octets::copy(m, 32, &b);
-    octets::copy(m, 64, &c);
-    octets::copy(m, 96, &d);
-}
-
-fn of_four(a: [u8; 32], b: [u8; 32], c: [u8; 32], d: [u8; 32]) -> [u8; 32]
-    ensures { λ r. ⌜ r ≡ sha256 (a ++ (b ++ (c ++ d))) ⌝ }
-{
-    let mut m = [0u8; 128];
-    join(&mut m, a, b, c, d);
-    hashed(&m)
 }
 
 // Definition 3.1: level, rank, third and right are hashed in this order, then their four digests joined.
@@ -167,12 +163,12 @@ fn label(level: u8, rank: u64, no_third: bool, third: [u8; 32], right: Side) -> 
     ensures { λ r. ⌜ r ≡ labelOf sha256 level rank (messageOf «no_third» third) (message right) ⌝ }
 {
     let r = right.label;
-    of_four(
-        of_byte(level),
-        of_number(rank),
-        of_message(no_third, third),
-        of_message(right.empty, r),
-    )
+    let mut m = [0u8; 128];
+    put_byte(&mut m, 0, level);
+    put_number(&mut m, 32, rank);
+    put_message(&mut m, 64, no_third, third);
+    put_message(&mut m, 96, right.empty, r);
+    hashed(&m)
 }
 
 // A leaf with its right side.
