@@ -132,12 +132,20 @@ fn parts(a: &[u8], k: usize, b: &[u8], l: usize, j: usize, u: Side, v: Side) -> 
     if l <= j {
         return false;
     }
-    let d = proofbytes::read::entry_at(b, j);
-    let e = proofbytes::read::entry_at(a, j);
     if j < k {
-        return fork(e, u, d, v);
+        return fork(
+            proofbytes::read::entry_at(a, j),
+            u,
+            proofbytes::read::entry_at(b, j),
+            v,
+        );
     }
-    halt(e, proofbytes::read::beside_at(a, k), d, v)
+    halt(
+        proofbytes::read::entry_at(a, j),
+        proofbytes::read::beside_at(a, k),
+        proofbytes::read::entry_at(b, j),
+        v,
+    )
 }
 
 fn fits(s: &[u8], i: usize, downs: bool) -> bool

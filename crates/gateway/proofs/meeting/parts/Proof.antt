@@ -24,17 +24,24 @@ fork-requires c κs = search needs
 returns-2 : tie.Need-returns-2
 unfolding partsOf
 returns-2 c =
-    let e = c .before .before in
-    let d = e .before in
+    let d = c .before in
+    let e = d .before in
+    let t = e .before in
     rw (
-      lt-ltb _ _ (d .before .if1 .left),
-      lt-ltb _ _ (c .before .if2 .taken),
-      ← (e .entry-at2 .ensures .0),
-      ← (d .entry-at .ensures .0),
+      lt-ltb _ _ (t .before .if1 .left),
+      lt-ltb _ _ (t .if2 .taken),
+      ← (e .entry-at .ensures .0),
+      ← (d .entry-at2 .ensures .0),
     ) (c .fork .ensures)
+
+entry-at-requires-3 : tie.Need-entry-at-requires-3
+entry-at-requires-3 c κs = search needs
 
 beside-at-requires : tie.Need-beside-at-requires
 beside-at-requires c κs = search needs
+
+entry-at-requires-4 : tie.Need-entry-at-requires-4
+entry-at-requires-4 c κs = search needs
 
 halt-requires : tie.Need-halt-requires
 halt-requires c κs = search needs
@@ -42,18 +49,19 @@ halt-requires c κs = search needs
 returns-3 : tie.Need-returns-3
 unfolding partsOf
 returns-3 c =
-    let b = c .before in
-    let e = b .before .before in
-    let d = e .before in
-    let a = d .before .before .before .before .args in
-    let same : a .k ≡ a .j = omega arith in
+    let d = c .before in
+    let b = d .before in
+    let e = b .before in
+    let t = e .before in
+    let s = t .before .before .before .before in
+    let same : s .args .k ≡ s .args .j = omega (arith, s .pre .2) in
     rw (
-      lt-ltb _ _ (d .before .if1 .left),
-      le-ltb _ _ (b .before .if2 .left),
+      lt-ltb _ _ (t .before .if1 .left),
+      le-ltb _ _ (t .if2 .left),
       ← (b .beside-at .ensures .0),
       same,
-      ← (e .entry-at2 .ensures .0),
-      ← (d .entry-at .ensures .0),
+      ← (e .entry-at3 .ensures .0),
+      ← (d .entry-at4 .ensures .0),
     ) (c .halt .ensures)
 
 pub parts-spec : {M : Type 1} → statement M
@@ -65,6 +73,8 @@ parts-spec =
     entry-at-requires-2
     fork-requires
     returns-2
+    entry-at-requires-3
     beside-at-requires
+    entry-at-requires-4
     halt-requires
     returns-3)
