@@ -1,7 +1,8 @@
 """The stack that an x86-64 function needs at most, read from its code (objects, archives or programs): each function's frame at its
 deepest, with its return address and the red zone it uses, and the dearest way through what it calls. A call that is not in the files
 (memcpy) counts as nothing. A jump through a table may lead to any block of its function, whose frame then is as deep as at the jump.
-bounds(files, names) answers {name: (bytes of the frame, bytes in all, calls that were not found)}."""
+bounds(files, names) answers {name: (bytes of the frame, bytes in all, calls that were not found, the dearest way)}, the way as
+[(function, bytes of it)] from the name downwards."""
 import re
 import subprocess
 import sys
@@ -96,15 +97,17 @@ def bounds(files, names):
         if name in known:
             return known[name]
         if name not in code or name in busy:
-            return 0, {"recursion" if name in busy else name}
+            return 0, {"recursion" if name in busy else name}, []
         busy.add(name)
         total, calls = frame(name, code, places)
-        lost = set()
+        lost, way = set(), [(name, total)]
         for depth, other in calls:
-            below, missing = whole(other)
-            total, lost = max(total, depth + below), lost | missing
+            below, missing, down = whole(other)
+            lost |= missing
+            if depth + below > total:
+                total, way = depth + below, [(name, depth)] + down
         busy.discard(name)
-        known[name] = total, lost
+        known[name] = total, lost, way
         return known[name]
 
     return {name: (frame(name, code, places)[0], *whole(name)) for name in names}

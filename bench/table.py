@@ -308,15 +308,27 @@ STACKS = [
 ]
 
 
+# Of these the dearest way is told, and of the digest also what it takes without the C interface, as the gateway calls it.
+WAYS = ["qt_sha256_digest", "qt_gateway_check"]
+INNER = "sha256::digest"
+
+
 def stacks():
     heading("Stack", "In bytes, with the return address. Bound: the dearest way through the code that was compiled, without what memcpy and memmove take.\n"
             "Written: by painting, on a row of 200 columns of every level.", ["call", "bound", "written"])
-    bound = stackuse.bounds([LIBRARY], [name for name, _, _ in STACKS])
+    bound = stackuse.bounds([LIBRARY], [name for name, _, _ in STACKS] + [INNER])
     heights, p = rows.stairs(200)
     file, k = image("stack", heights), [len(rows.path(heights, q)[0]) for q in (p - 1, p)]
     for name, calls, turn in STACKS:
-        deep = [stack(turn, "calls", c, file, p, 5, f"{k[0]}/{k[1]}" if c == "delete" else k[1]) for c in calls]
-        line([f"`{name}`", number(bound[name][1]), number(max(deep))])
+        deep = {c: stack(turn, "calls", c, file, p, 5, f"{k[0]}/{k[1]}" if c == "delete" else k[1]) for c in calls}
+        own = bound[name][3][0][1]
+        if (INNER, bound[INNER][3][0][1]) in bound[name][3][1:2]:
+            line([f"`{INNER}`, without the C interface", number(bound[INNER][1]), number(max(deep.values()) - own)])
+        for call, written in deep.items() if name in WAYS and len(calls) > 1 else [("", max(deep.values()))]:
+            line([f"`{name}`" + (f", {call.capitalize()}" if call else ""), number(bound[name][1]), number(written)])
+    print("\nThe dearest way, frame by frame:\n")
+    for name in WAYS:
+        print(f"- {number(bound[name][1])}: " + ", ".join(f"`{function}` {size}" for function, size in bound[name][3]))
 
 
 def times():
