@@ -14,7 +14,7 @@ static double seconds(void) {
     return t.tv_sec + t.tv_nsec * 1e-9;
 }
 
-// The least of 150 runs, each of as many turns as take about four milliseconds.
+// The least of 30 runs, each of as many turns as take about four milliseconds.
 static double nanoseconds(void (*turn)(void *), void *arg) {
     double best = 1e9, from;
     long turns = 1;
@@ -23,7 +23,7 @@ static double nanoseconds(void (*turn)(void *), void *arg) {
         for (long i = 0; i < turns; i++) turn(arg);
         if (seconds() - from > 2e-3) break;
     }
-    for (int run = 0; run < 150; run++) {
+    for (int run = 0; run < 30; run++) {
         from = seconds();
         for (long i = 0; i < turns; i++) turn(arg);
         double t = (seconds() - from) / turns * 1e9;

@@ -49,8 +49,12 @@ def ask(how, program, *words, env=None):
     return run(emulator + [f"{TARGET}/{program}", *map(str, words), how, "0"], env).stdout.strip()
 
 
-def nanoseconds(program, *words, env=None):
-    return float(ask("time", program, *words, env=env))
+# A program takes the least of 30 runs; it is asked as often as this, so that it is the least of 150.
+ROUNDS = 5
+
+
+def nanoseconds(program, *words, env=None, rounds=ROUNDS):
+    return min(float(ask("time", program, *words, env=env)) for _ in range(rounds))
 
 
 def stack(turn, program, *words, env=None):
@@ -103,11 +107,11 @@ OPENSSL = {
 
 class Digest:
     def __init__(self, program, env=None, counted=True):
+        self.program, self.env, self.times = program, env, [None, None]
         self.checked(program, env)
         lengths = (1, 4, 32, 128, MOST - 64, MOST) if counted else ()
         self.count = {n: count(program, n, env=env) for n in lengths}
         self.block = self.count[MOST] - self.count[MOST - 64] if counted else None
-        self.times = [nanoseconds(program, MOST, env=env) / (MOST // 64 + 1), nanoseconds(program, 32, env=env)] if NATIVE else [None, None]
         self.stack = stack("turn", program, MOST, env=env)
 
     @staticmethod
@@ -116,6 +120,11 @@ class Digest:
         for n in (0, 1, 32, 55, 56, 63, 64, 128, MOST):
             if ask("show", program, n, env=env) != hashlib.sha256(message[:n]).hexdigest():
                 sys.exit(f"{program}: a wrong digest of {n} bytes")
+
+    def timed(self):
+        for i, n, blocks in (0, MOST, MOST // 64 + 1), (1, 32, 1):
+            now = nanoseconds(self.program, n, env=self.env, rounds=1) / blocks
+            self.times[i] = min(now, self.times[i] or now)
 
     def row(self, name, best):
         ratio = lambda x, y: f"{x:,.0f} ({x / y:.2f})" if x else "–"
@@ -128,17 +137,23 @@ def digests():
     found = {os.path.basename(p)[len("digest-"):] for p in glob.glob(f"{TARGET}/digest-*") if not p.endswith(".o")}
     portable = {k: Digest(f"digest-{k}") for k in DIGESTS if k in found}
     others = [d for k, d in portable.items() if k != "proved"]
+    assembly = {}
+    if "openssl" in found:
+        assembly = {"OpenSSL, " + k: Digest("digest-openssl", mask) for k, mask in OPENSSL.items()}
+        if NATIVE and "sha_ni" in open("/proc/cpuinfo").read():
+            assembly["OpenSSL, SHA instructions (the counter does not know them)"] = Digest("digest-openssl", counted=False)
+    for _ in range(ROUNDS if NATIVE else 0):
+        for d in [*portable.values(), *assembly.values()]:
+            d.timed()
     best = [min(d.block for d in others), min(d.count[32] for d in others)] + [min(d.times[i] for d in others) if NATIVE else None for i in (0, 1)]
     heading("Digest", "In brackets: the ratio to the best of the portable ones, column by column. Per block: 4,096 bytes less 4,032. Nanoseconds per block: those\n"
-            "of 4,096 bytes, by their 65 blocks. Stack: the bytes that a call writes. OpenSSL's assembly stands here as a class of its own.",
+            "of 4,096 bytes, by their 65 blocks; the digests are timed in turn, five times round. Stack: the bytes that a call writes. OpenSSL's assembly\n"
+            "stands here as a class of its own.",
             ["", "per 64-byte block", "32 bytes", "128 bytes", "4,096 bytes", "ns per block", "ns for 32 bytes", "stack"])
     for k, d in portable.items():
         d.row(DIGESTS[k], best)
-    if "openssl" in found:
-        for k, mask in OPENSSL.items():
-            Digest("digest-openssl", mask).row("OpenSSL, " + k, best)
-        if NATIVE and "sha_ni" in open("/proc/cpuinfo").read():
-            Digest("digest-openssl", counted=False).row("OpenSSL, SHA instructions (the counter does not know them)", best)
+    for name, d in assembly.items():
+        d.row(name, best)
     for k in {"sha2", "openssl"} - found:
         print(f"\n`{k}` could not be had on this machine: not measured.")
     return portable["proved"]

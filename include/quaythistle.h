@@ -5,6 +5,9 @@
  * memmove of the C library and nothing else: no call allocates, keeps anything between calls, reads or writes a file, or fails in a way
  * that its answer does not tell. Calls on different buffers may run at once.
  *
+ * No call recurses. For a task with a small stack: a digest, a tag, a match and a height take less than 1 KiB of it, the gateway's calls
+ * less than 2 KiB, the store's and the shape less than 9 KiB.
+ *
  * Every call takes whatever C can pass and answers or refuses it by number. A refusal changes no lent byte.
  *
  * What a caller owes, as in C at large: a pointer points to as many elements as the length after it says, and may be null only where that

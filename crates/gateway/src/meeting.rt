@@ -124,7 +124,8 @@ fn halt(e: Fields, b: Beside, d: Fields, v: Side) -> bool
     beside_is(b, v)
 }
 
-// The paths part after j shared entries; u and v are what the first and the second recompute below.
+// The paths part after j shared entries; u and v are what the first and the second recompute below. The entries are read in each case by
+// itself: kept over both they take stack.
 fn parts(a: &[u8], k: usize, b: &[u8], l: usize, j: usize, u: Side, v: Side) -> bool
     requires { ⌜ (at k + stopSize ≤ length (now a)) × (at l + stopSize ≤ length (now b)) × (j ≤ k) ⌝ }
     ensures { λ r. ⌜ r ≡ partsOf (now (a .entry)) k (now (b .entry)) l j u v ⌝ }

@@ -158,7 +158,8 @@ fn put_message(m: &mut [u8], at: usize, nothing: bool, bytes: [u8; 32])
     }
 }
 
-// Definition 3.1: level, rank, third and right are hashed in this order, then their four digests joined.
+// Definition 3.1: level, rank, third and right are hashed in this order, then their four digests joined. Each goes into the message at
+// once and takes no stack of its own.
 fn label(level: u8, rank: u64, no_third: bool, third: [u8; 32], right: Side) -> [u8; 32]
     ensures { λ r. ⌜ r ≡ labelOf sha256 level rank (messageOf «no_third» third) (message right) ⌝ }
 {

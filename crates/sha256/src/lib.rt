@@ -28,7 +28,7 @@ pub struct Digested {
     pub bytes: [u8; 32],
 }
 
-// 6.2.2, 1: the message schedule. A word of it from 16 on; the first sixteen words; all of them.
+// 6.2.2, 1: the message schedule. A word of it from 16 on; the first sixteen words.
 fn next_word(w2: u32, w7: u32, w15: u32, w16: u32) -> u32
     ensures { λ r. ⌜ r ≡ mixed w2 w7 w15 w16 ⌝ }
 {
@@ -74,7 +74,7 @@ fn one_round(s: [u32; 8], k: u32, w: u32) -> [u32; 8]
     [a, s[0], s[1], s[2], e, s[4], s[5], s[6]]
 }
 
-// Rounds 0 to 15, with the block's own words.
+// 6.2.2, 3, for t = 0 to 15, with the block's own words.
 fn first_rounds(s: [u32; 8], w: [u32; 16]) -> [u32; 8]
     ensures { λ r. ⌜ r ≡ rounds w s 16 ⌝ }
 {
@@ -133,7 +133,7 @@ fn step(x: Window, k: u32) -> Window
     Window { s, w }
 }
 
-// Rounds t to t + 15, from 16 on.
+// Rounds t to t + 15, from 16 on. After sixteen turns of the window its first place is the first again, so that nothing is moved.
 fn sixteen_rounds(x: Window, t: usize) -> Window
     requires { ⌜ (16 ≤ t) × (t + 16 ≤ 64) ⌝ }
     ensures { λ r. ⌜ ((b v : List ℕ) → Before b v t (x .s) (x .w) → Before b v (t + 16) (r .s) (r .w)) ⌝ }
@@ -156,7 +156,7 @@ fn sixteen_rounds(x: Window, t: usize) -> Window
     step(x, tables::constant(t + 15))
 }
 
-// Rounds 16 to 63, from the working variables after the first sixteen and the block's own words.
+// 6.2.2, 3, for t = 16 to 63, from the working variables after the first sixteen rounds and the block's own words.
 fn later_rounds(s: [u32; 8], w: [u32; 16]) -> [u32; 8]
     ensures { λ r. ⌜ ((b v : List ℕ) → Before b v 16 s w → r ≡ rounds (schedule b 64) v 64) ⌝ }
 {
