@@ -53,8 +53,8 @@ def ask(how, program, *words, env=None):
 ROUNDS = 5
 
 
-def nanoseconds(program, *words, env=None, rounds=ROUNDS):
-    return min(float(ask("time", program, *words, env=env)) for _ in range(rounds))
+def nanoseconds(program, *words, env=None):
+    return float(ask("time", program, *words, env=env))
 
 
 def stack(turn, program, *words, env=None):
@@ -123,7 +123,7 @@ class Digest:
 
     def timed(self):
         for i, n, blocks in (0, MOST, MOST // 64 + 1), (1, 32, 1):
-            now = nanoseconds(self.program, n, env=self.env, rounds=1) / blocks
+            now = nanoseconds(self.program, n, env=self.env) / blocks
             self.times[i] = min(now, self.times[i] or now)
 
     def row(self, name, best):
@@ -347,15 +347,21 @@ def stacks():
 
 
 def times():
-    heading("Time", "Microseconds of processor time, natively: the least of 150 runs.", ["", "k = 16", "k = 200"])
-    for name, call, height in COMMANDS:
-        cases = [gateway_case(call, *rows.stairs(k), height)[0] for k in (16, 200)]
-        line([f"gateway, {name}"] + [f"{nanoseconds('calls', *words) / 1000:,.0f}" for words in cases])
-    print()
-    heading(None, None, ["", "n = 256", "n = 4,096"])
-    for call in ("check", "prove"):
-        cases = [store_case(call, "drawn", n)[0] for n in (256, MOST)]
-        line([f"store, {call}"] + [f"{nanoseconds('calls', *words) / 1000:,.0f}" for words in cases])
+    gate = {f"gateway, {name}": [gateway_case(call, *rows.stairs(k), height)[0] for k in (16, 200)] for name, call, height in COMMANDS}
+    kept = {f"store, {call}": [store_case(call, "drawn", n)[0] for n in (256, MOST)] for call in ("check", "prove")}
+    best = {}
+    for _ in range(ROUNDS):
+        for words in [w for cases in [*gate.values(), *kept.values()] for w in cases]:
+            now = nanoseconds("calls", *words)
+            best[words] = min(now, best.get(words, now))
+    for cases, title, text, ends in (
+        (gate, "Time", "Microseconds of processor time, natively: the least of 150 runs. The calls are timed in turn, five times round.", ["k = 16", "k = 200"]),
+        (kept, None, None, ["n = 256", "n = 4,096"]),
+    ):
+        heading(title, text, ["", *ends])
+        for name, pair in cases.items():
+            line([name] + [f"{best[words] / 1000:,.0f}" for words in pair])
+        print(end="\n" if title else "")
 
 
 def main():
