@@ -337,7 +337,7 @@ def stacks():
     for name, calls, turn in STACKS:
         deep = {c: stack(turn, "calls", c, file, p, 5, f"{k[0]}/{k[1]}" if c == "delete" else k[1]) for c in calls}
         own = bound[name][3][0][1]
-        if (INNER, bound[INNER][3][0][1]) in bound[name][3][1:2]:
+        if name == "qt_sha256_digest":
             line([f"`{INNER}`, without the C interface", number(bound[INNER][1]), number(max(deep.values()) - own)])
         for call, written in deep.items() if name in WAYS and len(calls) > 1 else [("", max(deep.values()))]:
             line([f"`{name}`" + (f", {call.capitalize()}" if call else ""), number(bound[name][1]), number(written)])

@@ -6,7 +6,7 @@
  * that its answer does not tell. Calls on different buffers may run at once.
  *
  * No call recurses. For a task with a small stack: a digest, a tag, a match and a height take less than 1 KiB of it, the gateway's calls
- * less than 2 KiB, the store's and the shape less than 9 KiB.
+ * less than 2 KiB, the store's and the shape less than 9 KiB, beside the arguments that the caller passes by value.
  *
  * Every call takes whatever C can pass and answers or refuses it by number. A refusal changes no lent byte.
  *
