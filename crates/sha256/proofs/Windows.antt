@@ -13,6 +13,7 @@ use Rattle.octets.proofs.PartLaws.{length-part, part-none, part-cons, part-snoc
 use Rattle.sha256.specs.Constants.{constants}
 use Rattle.sha256.specs.Hash.{mixed, schedule, round, rounds}
 use Rattle.sha256.specs.Window.{Before}
+use Rattle.sha256.proofs.Rounds.{round-more}
 use Rattle.sha256.proofs.Schedules.{schedule-length, schedule-front, word-mixed}
 
 -- the k elements of a list from a on, one by one, and r
@@ -80,14 +81,13 @@ next-made b w t x g h e ex =
 pub stepped : (b v s w r : List ℕ) (k x t : ℕ) → 16 ≤ t → t < 64 → k ≡ getD constants t 0
     → x ≡ mixed (getD w 14 0) (getD w 9 0) (getD w 1 0) (getD w 0 0) → r ≡ round s k (getD (set w 0 x) 0 0) → Before b v t s w
     → Before b v (t + 1) r (turned (set w 0 x))
-unfolding rounds
 stepped b v s w r k x t g h ek ex er i =
     let m : t - 16 + 16 ≡ t = omega arith in
     let n : t - 16 + 1 ≡ t + 1 - 16 = omega arith in
     let l : t - 16 + 16 < length (schedule b 64) = rw (m, schedule-length b 64) h in
     let ew : x ≡ getD (schedule b 64) (t - 16 + 16) 0 = rw m (next-made b w t x g h (i .words) ex) in
     let eu = rw m at (put-first (schedule b 64) w (t - 16) x l (i .words) ew) in record {
-      variables = er ∙ (rw (add-one, ek, eu, i .variables));
+      variables = rw add-one (round-more (schedule b 64) v s r t k ek (rw eu at er) (i .variables));
       words = rw n at (moved (schedule b 64) w (t - 16) x l (i .words) ew);
     }
 
