@@ -1,13 +1,13 @@
 -- Each refusal's number in document 01's table "What comes back when it will not", and the proof that it speaks of:
--- "7, 8 and 9 also say which proof, first or second."
+-- "7, 8 and 9 also say which proof, first or second"; of a joint proof "with its place".
 -- Assumes nothing.
 use Prim.Native.Nat.{ℕ}
 use Rattle.refusals.specs.declared.Which.{Which}
-use Rattle.refusals.specs.declared.Which.the-variants.{First, Second}
+use Rattle.refusals.specs.declared.Which.the-variants.{First, Second, Place}
 use Rattle.refusals.specs.declared.Refusal.{Refusal}
 use Rattle.refusals.specs.declared.Refusal.the-variants.{BadImage, BadPosition, BadHeight, Full, NoRoom, TooDeep}
 use Rattle.refusals.specs.declared.Refusal.the-variants.{BadProof, WrongPosition, WrongLabel, NotNeighbours}
-use Rattle.refusals.specs.declared.Refusal.the-variants.{LongMessage, BadMetadata}
+use Rattle.refusals.specs.declared.Refusal.the-variants.{LongMessage, BadMetadata, BadSet}
 use Rattle.refusals.specs.declared.Verdict.{Verdict}
 use Rattle.refusals.specs.declared.Verdict.the-variants.{Done, Refused}
 
@@ -24,6 +24,7 @@ numberOf (WrongLabel w) = 9
 numberOf NotNeighbours = 10
 numberOf LongMessage = 11
 numberOf BadMetadata = 12
+numberOf BadSet = 13
 
 -- nothing refused is 0
 abbrev pub verdictNumber : Verdict → ℕ
@@ -33,6 +34,7 @@ verdictNumber (Refused r) = numberOf r
 abbrev pub proofNumber : Which → ℕ
 proofNumber First = 1
 proofNumber Second = 2
+proofNumber (Place n) = n
 
 -- the proof that a refusal speaks of, 0 for none
 abbrev pub proofOf : Refusal → ℕ
@@ -48,3 +50,4 @@ proofOf (WrongLabel w) = proofNumber w
 proofOf NotNeighbours = 0
 proofOf LongMessage = 0
 proofOf BadMetadata = 0
+proofOf BadSet = 0

@@ -4,10 +4,12 @@ ghost use mathlib.Core.Path.{_≡_};
 ghost use Rattle.refusals.specs.Numbers.{numberOf, proofOf, proofNumber, verdictNumber};
 ghost use Rattle.refusals.specs.Order.{isDone};
 
-// Which proof of a command: Delete carries two, the others one, their First.
+// Which proof of a command: Delete carries two, the others one, their First. Of a joint proof the spelled-out proof by its place, from
+// 1 on; 0 is the joint proof's own form.
 pub enum Which {
     First,
     Second,
+    Place(u8),
 }
 
 pub enum Refusal {
@@ -23,6 +25,7 @@ pub enum Refusal {
     NotNeighbours,
     LongMessage,
     BadMetadata,
+    BadSet,
 }
 
 pub enum Verdict {
@@ -47,6 +50,7 @@ pub fn number(r: Refusal) -> u8
         Refusal::NotNeighbours => 10,
         Refusal::LongMessage => 11,
         Refusal::BadMetadata => 12,
+        Refusal::BadSet => 13,
     }
 }
 
@@ -75,10 +79,11 @@ fn ordinal(w: Which) -> u8
     match w {
         Which::First => 1,
         Which::Second => 2,
+        Which::Place(n) => n,
     }
 }
 
-// The proof that a refusal speaks of: 1 the first, 2 the second, 0 none.
+// The proof that a refusal speaks of: 1 the first, 2 the second, 0 none; of a joint proof the place.
 pub fn proof(r: Refusal) -> u8
     ensures { λ n. ⌜ n ≡ proofOf r ⌝ }
 {
@@ -95,5 +100,6 @@ pub fn proof(r: Refusal) -> u8
         Refusal::NotNeighbours => 0,
         Refusal::LongMessage => 0,
         Refusal::BadMetadata => 0,
+        Refusal::BadSet => 0,
     }
 }
