@@ -20,6 +20,8 @@ pub mod LengthLaws
 pub mod SlotLaws
 pub mod BlockLaws
 pub mod WayLaws
+pub mod SharedLaws
+pub mod SplitLaws
 pub mod Predictions
 pub mod Trust
 pub mod Theorems

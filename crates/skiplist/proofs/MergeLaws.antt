@@ -125,7 +125,7 @@ rights-crossing : (c : Item) (h : ℕ) (p : List (Entry Tree)) → rights (cross
 rights-crossing c zero p = refl
 rights-crossing c (suc h) p = refl
 
-graft-crossing : (c : Item) (h : ℕ) (p : List (Entry Tree)) → Top h p → graftEntries c h p ≡ crossing c h ∷ p
+pub graft-crossing : (c : Item) (h : ℕ) (p : List (Entry Tree)) → Top h p → graftEntries c h p ≡ crossing c h ∷ p
 graft-crossing c h [] t = refl
 graft-crossing c h (down l s ∷ p) t = rw (le-ltb h l t)
 graft-crossing c h (right l s ∷ p) t = rw (le-ltb h l t)

@@ -7,6 +7,7 @@ pub mod Merge
 pub mod Find
 pub mod Path
 pub mod Length
+pub mod Sharing
 pub mod Slots
 pub mod Label
 pub mod Messages
