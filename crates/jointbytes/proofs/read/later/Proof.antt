@@ -1,0 +1,14 @@
+-- `jointbytes::read::later` meets its contract.
+-- Assumes nothing.
+use borrow.Author.Tests.{le-leb, lt-leb}
+use Rattle.jointbytes.proofs.read.later.Statement.{statement}
+use Rattle.jointbytes.proofs.read.later.Tie as tie
+
+returns : tie.Need-returns
+returns c = simp (le-leb _ _ (c .if1 .taken))
+
+returns-2 : tie.Need-returns-2
+returns-2 c = simp (lt-leb _ _ (c .if1 .left))
+
+pub later-spec : {M : Type 1} → statement M
+later-spec = tie.close (tie.spec returns returns-2)
