@@ -1,12 +1,12 @@
-mod SlotLaws
-mod RunLaws
-mod PlanLaws
+pub mod SlotLaws
+pub mod RunLaws
+pub mod PlanLaws
 mod EntryLaws
-mod TailLaws
-mod TurnLaws
-mod ProofLaws
+pub mod TailLaws
+pub mod TurnLaws
+pub mod ProofLaws
 mod CheckLaws
-mod ProveLaws
+pub mod ProveLaws
 mod ApplyLaws
 pub mod Unique
 pub mod Theorems

@@ -26,7 +26,7 @@ noMark = record { level = 0; count = 0 }
 pub marks-start : (b : List ℕ) (p : ℕ) → noMark ≡ markOf (runOf b p p)
 marks-start b p = rw (run-none b p p (omega arith), no-blocks b p)
 
-mark-column : (d : Column) (A : List Column) → marked (markOf A) (d .height) ≡ markOf (d ∷ A)
+pub mark-column : (d : Column) (A : List Column) → marked (markOf A) (d .height) ≡ markOf (d ∷ A)
 mark-column d A = go (ltb (d .height) (tallest A))
   where
     go : (c : Bool) → cond c (markOf A) (record { level = d .height; count = length (rightColumns A) + 1 })

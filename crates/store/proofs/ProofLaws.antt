@@ -88,7 +88,7 @@ stop-rank (down l s ∷ q) c r m h = stop-rank q c r m (omega arith)
 stop-rank (right l s ∷ q) c r m h = stop-rank q c r m (omega arith)
 stop-rank (pass d ∷ q) c r m h = stop-rank q c r m (omega arith)
 
-last-item : (b : List ℕ) (i k m : ℕ) (c : Item) → c ≡ itemAt b i → m ≡ i + k → lastOf c (row (blocksFrom b i k))
+pub last-item : (b : List ℕ) (i k m : ℕ) (c : Item) → c ≡ itemAt b i → m ≡ i + k → lastOf c (row (blocksFrom b i k))
     ≡ itemAt b m
 unfolding blocksFrom
 last-item b i zero m c e em = let f : m ≡ i = omega arith in e ∙ rw f
@@ -172,6 +172,32 @@ module _ (b : List ℕ) (x : Layout) (o : Opened b x) (p : ℕ) (in-row : p ≤ 
   bytes-are = ap bytesOf entries-are ∙ ap entriesBytes (to-sides (entriesTo head A B) (lastOf head A)
       (stopSide trees B) ranked)
 
+  -- the path, its sides as the code has them, and its stop
+  pub entries-found : pathAt b p .entries ≡ entriesTo head (runOf b 0 p) (runOf b p (x .count))
+  unfolding A B n
+  entries-found = ap (λ (z : Place Tree). z .entries) found
+
+  pub labels-found : map (mapEntry toSide) (map (mapEntry (sideOf coded)) (pathAt b p .entries))
+      ≡ map (mapEntry (sideOf (sides sha256))) (pathAt b p .entries)
+  labels-found = rw found (to-sides (entriesTo head A B) (lastOf head A) (stopSide trees B) ranked)
+
+  pub stop-found : (t : code.Side) → t ≡ stopSide coded (runOf b p (x .count))
+      → stopFields (itemAt b p .own) (shown (itemAt b p)) (t .rank) (t .label)
+      ≡ stopFields (pathAt b p .item .own) (shown (pathAt b p .item)) (sideOf (sides sha256) (pathAt b p .side) .rank)
+      (labelField (sideOf (sides sha256) (pathAt b p .side)))
+  unfolding A B n
+  stop-found t e =
+      let r = stopSide trees B in
+      let e₀ : t ≡ sideOf coded r = e ∙ stop-side coded B in
+      let fits : rank r < 2 ^ 64 = stop-rank (entriesTo head A B) (lastOf head A) r (2 ^ 64) ranked in
+      let er : sideOf coded r .rank ≡ sideOf (sides sha256) r .rank =
+      ap (λ (y : Side). y .rank) (code-side r fits .side-is) in
+      let el : sideOf coded r .label ≡ labelField (sideOf (sides sha256) r) =
+      field-is r (rw (← row-after) (heavy-stop (drop p bs))) fits in
+      let z : p - 0 ≡ p = omega arith in
+      let it : lastOf head A ≡ itemAt b p = rw z (last-item b 0 p p head refl (omega arith)) in
+      rw (e₀, er, el, ← it, found)
+
   -- THE BYTES: header, entries and stop as the code writes them
   pub proof-is : (k own : ℕ) (tag : List ℕ) (s : List code.Side) (d : code.Side) → k ≡ entriesAt b p → own
       ≡ itemAt b p .own
@@ -180,22 +206,13 @@ module _ (b : List ℕ) (x : Layout) (o : Opened b x) (p : ℕ) (in-row : p ≤ 
       (getD s 0 d .label)) ≡ proofAt b p
   unfolding proofBytes A B n
   proof-is k own tag s d ek eo et es =
-      let r = stopSide trees B in
       let l : length s ≡ suc mostHeight = ap length es ∙ slots-length coded vacant tells mostHeight B in
-      let e₀ : getD s 0 d ≡ sideOf coded r =
-      getD-any s 0 d noSide (omega (arith, l)) ∙ rw es (slots-stop coded vacant tells mostHeight B low-after
-      ∙ stop-side coded B) in
-      let fits : rank r < 2 ^ 64 = stop-rank (entriesTo head A B) (lastOf head A) r (2 ^ 64) ranked in
-      let c = code-side r fits in
-      let er : sideOf coded r .rank ≡ sideOf (sides sha256) r .rank = ap (λ (y : Side). y .rank) (c .side-is) in
-      let el : sideOf coded r .label ≡ labelField (sideOf (sides sha256) r) =
-      field-is r (rw (← row-after) (heavy-stop (drop p bs))) fits in
-      let z : p - 0 ≡ p = omega arith in
-      let it : lastOf head A ≡ itemAt b p = rw z (last-item b 0 p p head refl (omega arith)) in
+      let e₀ : getD s 0 d ≡ stopSide coded B =
+      getD-any s 0 d noSide (omega (arith, l)) ∙ rw es (slots-stop coded vacant tells mostHeight B low-after) in
       let kk : length (map (mapEntry (sideOf (sides sha256))) (entriesTo head A B)) ≡ k =
       length-map (entriesTo head A B) (mapEntry (sideOf (sides sha256)))
       ∙ sym (ek ∙ ap (λ (y : Place Tree). length (y .entries)) found) in
-      rw (bytes-are, e₀, er, el, eo, et, ← it, found, kk)
+      rw (bytes-are, eo, et, stop-found (getD s 0 d) e₀, found, kk)
 
 -- ---- header, entries and stop side by side
 pub three : (old h t z x y w : List ℕ) (at k : ℕ) → length h ≡ headerSize → length t ≡ entrySize * k

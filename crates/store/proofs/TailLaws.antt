@@ -109,6 +109,19 @@ nearest-is b h (suc j) = go (order (heightAt b j) h) (nearest-is b h j)
         let y : suc j - 1 ≡ j = omega arith in
         rw (le-ltb (heightAt b j) h k) (record { before = omega arith; lower = rw z tt; high = λ q. rw y k })
 
+-- a column that is tall enough is not passed
+pub nearest-after : (b : List ℕ) (h m a : ℕ) → a ≤ m → (0 < a → h ≤ heightAt b (a - 1)) → a ≤ nearest b h m
+unfolding nearest
+nearest-after b h zero a k t = k
+nearest-after b h (suc m) a k t = go (order (heightAt b m) h) (order m a) (λ q. nearest-after b h m a q t)
+  where
+    go : (heightAt b m < h) ⊎ (h ≤ heightAt b m) → (m < a) ⊎ (a ≤ m) → (a ≤ m → a ≤ nearest b h m)
+        → a ≤ nearest b h (suc m)
+    go (inl x) (inl y) ih =
+        let e : a - 1 ≡ m = omega arith in absurd (omega (arith, x, rw e at (t (omega arith))))
+    go (inl x) (inr y) ih = rw (lt-ltb (heightAt b m) h x) (ih y)
+    go (inr x) y ih = rw (le-ltb (heightAt b m) h x) k
+
 top-map : {S R : Type 0} (f : S → R) (h : ℕ) (p : List (Entry S)) → Top h (map (mapEntry f) p) → Top h p
 top-map f h [] t = tt
 top-map f h (e ∷ p) t = omega (arith, level-map f e, t)
@@ -224,15 +237,22 @@ rights-more d A = go (ltb (d .height) (tallest A))
     go true = omega arith
     go false = omega arith
 
-rights-le : (b : List ℕ) (p a : ℕ) → a ≤ p → length (rightColumns (runOf b a p)) ≤ length (rightColumns (runOf b 0 p))
-rights-le b p zero k = omega arith
-rights-le b p (suc a) k =
-    let z : suc a - 1 ≡ a = omega arith in
-    let e : blocksFrom b a (p - a) ≡ blockAt b a ∷ blocksFrom b (suc a) (p - suc a) = rw z at
-    (run-front b (suc a) p (omega arith) k) in
-    let g : length (rightColumns (runOf b (suc a) p)) ≤ length (rightColumns (runOf b a p)) =
-    rw e (rights-more (column (blockAt b a)) (runOf b (suc a) p)) in
-    omega (arith, g, rights-le b p a (omega arith))
+rights-le : (b : List ℕ) (p f a : ℕ) → f ≤ a → a ≤ p
+    → length (rightColumns (runOf b a p)) ≤ length (rightColumns (runOf b f p))
+rights-le b p f zero j k = let e : f ≡ 0 = omega arith in rw e (omega arith)
+rights-le b p f (suc a) j k = go (order a f) (λ q. rights-le b p f a q (omega arith))
+  where
+    go : (a < f) ⊎ (f ≤ a)
+        → (f ≤ a → length (rightColumns (runOf b a p)) ≤ length (rightColumns (runOf b f p)))
+        → length (rightColumns (runOf b (suc a) p)) ≤ length (rightColumns (runOf b f p))
+    go (inl q) ih = let e : f ≡ suc a = omega arith in rw e (omega arith)
+    go (inr q) ih =
+        let z : suc a - 1 ≡ a = omega arith in
+        let e : blocksFrom b a (p - a) ≡ blockAt b a ∷ blocksFrom b (suc a) (p - suc a) = rw z at
+        (run-front b (suc a) p (omega arith) k) in
+        let g : length (rightColumns (runOf b (suc a) p)) ≤ length (rightColumns (runOf b a p)) =
+        rw e (rights-more (column (blockAt b a)) (runOf b (suc a) p)) in
+        omega (arith, g, ih q)
 
 opens-le : (s : List Side) (l h : ℕ) → l ≤ h → length (openSlots coded vacant s l) ≤ length (openSlots coded vacant s h)
 unfolding openSlots
@@ -250,13 +270,13 @@ opens-le s l (suc h) k = go (order h l) (vacant (slotOf s (suc h))) (λ q. opens
     go (inl q) b ih = let e : l ≡ suc h = omega arith in rw e (omega arith)
     go (inr q) b ih = omega (arith, ih q, more (vacant (slotOf s (suc h))))
 
-pub tail-le : (b : List ℕ) (s : List Side) (p a l : ℕ) → a ≤ p → l ≤ mostHeight
-    → length (tailAt b s p a l) ≤ length (tailAt b s p 0 mostHeight)
+pub tail-le : (b : List ℕ) (s : List Side) (p f a l : ℕ) → f ≤ a → a ≤ p → l ≤ mostHeight
+    → length (tailAt b s p a l) ≤ length (tailAt b s p f mostHeight)
 unfolding tailAt
-tail-le b s p a l ka kl =
+tail-le b s p f a l kf ka kl =
     rw (
       length-merge (rightsAt b p a) (openSlots coded vacant s l),
-      length-merge (rightsAt b p 0)
+      length-merge (rightsAt b p f)
           (openSlots coded vacant s mostHeight),
     )
-    (omega (arith, rights-count b p a, rights-count b p 0, rights-le b p a ka, opens-le s l mostHeight kl))
+    (omega (arith, rights-count b p a, rights-count b p f, rights-le b p f a kf ka, opens-le s l mostHeight kl))

@@ -1,7 +1,7 @@
 -- What the store's private functions compute, over the code's sides: no pledge cites these. Columns of the image b are
 -- counted from the head, which is column 0.
 -- Assumes nothing.
-use Prim.Native.Nat.{ℕ, zero, suc, _+_, _-_, _*_}
+use Prim.Native.Nat.{ℕ, zero, suc, _+_, _-_, _*_, _≤_, _<_}
 use mathlib.Core.Path.{_≡_}
 use mathlib.Core.Bool.{true, cond}
 use mathlib.Core.List.{List, [], _∷_, _++_, map}
@@ -93,6 +93,10 @@ countAt b n p = entryCount (runOf b 0 p) (runOf b p n)
 unfoldable pub nearest : List ℕ → ℕ → ℕ → ℕ
 nearest b h zero = zero
 nearest b h (suc m) = cond (ltb (heightAt b m) h) (nearest b h m) (suc m)
+
+-- column a is the head, or no column after it up to column p is taller
+abbrev pub Anchors : List ℕ → ℕ → ℕ → Type 0
+Anchors b a p = (j : ℕ) → 0 < a → a ≤ j → j < p → heightAt b j ≤ heightAt b (a - 1)
 
 -- a refused proof
 abbrev pub refusedProof : Refusal → Proved

@@ -13,9 +13,9 @@ use commands::Operation;
 use refusals::Refusal;
 use refusals::Verdict;
 
-mod path;
-mod plan;
-mod runs;
+pub mod path;
+pub mod plan;
+pub mod runs;
 mod slots;
 
 pub struct Checked {

@@ -1,5 +1,5 @@
 // A planned proof written: header, entries and stop, each into its own part of the buffer. The entries are written from
-// the last to the first, while the columns are passed from position p to the head, so that nothing is kept but the
+// the last to the first, while the columns are passed from position p back, so that nothing is kept but the
 // slots of the columns after p.
 ghost use mathlib.Core.Path.{_≡_};
 ghost use mathlib.Core.List.{[], _∷_};
@@ -10,7 +10,7 @@ ghost use Rattle.skiplist.specs.Limits.{mostHeight, digestBytes};
 ghost use Rattle.proofbytes.specs.Layout.{mostEntries, headerSize, entrySize, stopSize, proofSize};
 ghost use Rattle.proofbytes.specs.Writing.{headerBytes, fieldBytes, stopFields};
 ghost use Rattle.store.specs.Answers.{entriesAt, proofAt};
-ghost use Rattle.store.specs.Passes.{Opened, Sized, bytesOf, Put, openOf, spanOf, crossAt, pathOf};
+ghost use Rattle.store.specs.Passes.{Opened, Sized, Anchors, bytesOf, Put, openOf, spanOf, crossAt, tailAt};
 use crate::plan;
 use crate::runs;
 use archive::Layout;
@@ -89,17 +89,27 @@ fn put_right(b: &[u8], x: Layout, buffer: &mut [u8], at: usize, i: usize, m: usi
     }
 }
 
-// The k entries of the path to column p, from `at` on; s has the slots of the columns after p.
-fn put_entries(b: &[u8], x: Layout, buffer: &mut [u8], at: usize, k: usize, p: usize, s: [Side; 16])
+// The k entries of the path to column p from column `from` on, the first at `at`; s has the slots of the columns after p.
+pub fn put_entries(
+    b: &[u8],
+    x: Layout,
+    buffer: &mut [u8],
+    at: usize,
+    k: usize,
+    from: usize,
+    p: usize,
+    s: [Side; 16],
+)
     requires { ⌜ Opened (now b) x × (p ≤ x .count) × (at + entrySize * k ≤ length (now buffer))
-        × (length (pathOf (now b) s p) ≡ k) × Sized s ⌝ }
-    ensures { λ _. ⌜ (now (buffer .exit) ≡ patch (now (buffer .entry)) at (bytesOf (pathOf (now (b .entry)) s p)))
-        × (length (bytesOf (pathOf (now (b .entry)) s p)) ≡ entrySize * k) ⌝ }
+        × (length (tailAt (now b) s p from mostHeight) ≡ k) × Sized s × (from ≤ p) × Anchors (now b) from p ⌝ }
+    ensures { λ _. ⌜ (now (buffer .exit)
+        ≡ patch (now (buffer .entry)) at (bytesOf (tailAt (now (b .entry)) s p from mostHeight)))
+        × (length (bytesOf (tailAt (now (b .entry)) s p from mostHeight)) ≡ entrySize * k) ⌝ }
 {
     let mut a = p;
     let mut l = 0;
     let mut r = k;
-    while 0 < a {
+    while from < a {
         let m = a - 1;
         let h = archive::height(b, x, m);
         let q = put_slots(buffer, at, r, s, l, h as usize);
@@ -119,7 +129,7 @@ fn put_header(buffer: &mut [u8], at: usize, k: usize)
     write::header(&mut buffer[at..at + HEADER], k as u64);
 }
 
-fn put_stop(buffer: &mut [u8], at: usize, own: u64, tag: [u8; 32], right: Side)
+pub fn put_stop(buffer: &mut [u8], at: usize, own: u64, tag: [u8; 32], right: Side)
     requires { ⌜ (at + stopSize ≤ length (now buffer)) × (length tag ≡ digestBytes)
         × (length (right .label) ≡ digestBytes) ⌝ }
     ensures { λ _. ⌜ now (buffer .exit)
@@ -139,7 +149,7 @@ pub fn put_proof(b: &[u8], x: Layout, p: usize, buffer: &mut [u8], at: usize, k:
     let right = s[0];
     let first = at + HEADER;
     put_header(buffer, at, k);
-    put_entries(b, x, buffer, first, k, p, s);
+    put_entries(b, x, buffer, first, k, 0, p, s);
     put_stop(
         buffer,
         first + ENTRY * k,

@@ -28,7 +28,7 @@ pub struct Mark {
 }
 
 // From the right: a column with no taller one after it has a right entry.
-fn passed(m: Mark, h: u64) -> Mark
+pub fn passed(m: Mark, h: u64) -> Mark
     requires { ⌜ m .count < 4294967296 ⌝ }
     ensures { λ r. ⌜ (r ≡ marked m h) × (r .count ≤ m .count + 1) ⌝ }
 {
@@ -42,7 +42,7 @@ fn passed(m: Mark, h: u64) -> Mark
 }
 
 // From the left: a column taller than all before it has a down entry.
-fn climbed(m: Mark, h: u64) -> Mark
+pub fn climbed(m: Mark, h: u64) -> Mark
     requires { ⌜ m .count < 4294967296 ⌝ }
     ensures { λ r. ⌜ (r ≡ risen m h) × (r .count ≤ m .count + 1) ⌝ }
 {
@@ -86,7 +86,7 @@ fn downs(b: &[u8], x: Layout, p: usize) -> Mark
 }
 
 // The number of entries in the path to column p.
-fn entries(b: &[u8], x: Layout, p: usize) -> u64
+pub fn entries(b: &[u8], x: Layout, p: usize) -> u64
     requires { ⌜ Opened (now b) x × (p ≤ x .count) ⌝ }
     ensures { λ r. ⌜ (r ≡ countAt (now (b .entry)) (x .count) p) × (r ≤ x .count) ⌝ }
 {
@@ -111,7 +111,7 @@ pub fn anchor(b: &[u8], x: Layout, h: u64, m: usize) -> usize
 }
 
 // Do `size` bytes from `place` on end within the room? No sum, so none can wrap.
-fn fits(room: u64, place: u64, size: u64) -> bool
+pub fn fits(room: u64, place: u64, size: u64) -> bool
     ensures { λ r. ⌜ r ≡ leb (place + size) room ⌝ }
 {
     if room < place {
@@ -120,7 +120,7 @@ fn fits(room: u64, place: u64, size: u64) -> bool
     size <= room - place
 }
 
-fn refused(r: Refusal) -> Proved
+pub fn refused(r: Refusal) -> Proved
     ensures { λ t. ⌜ t ≡ refusedProof r ⌝ }
 {
     Proved {

@@ -13,13 +13,13 @@ use Rattle.store.proofs.path.put_entries.Statement.{statement}
 use Rattle.store.proofs.path.put_entries.Tie as tie
 
 abbrev Inv-loop : tie.InvT-loop
-Inv-loop b x buffer₀ at k p s a₀ l₀ r₀ buffer a l r = Held b s at k p buffer₀ buffer a l r
+Inv-loop b x buffer₀ at k from p s a₀ l₀ r₀ buffer a l r = Held b s at k from p buffer₀ buffer a l r
 
 abbrev μ-loop : tie.MeasureT-loop
-μ-loop b x buffer₀ at k p s a₀ l₀ r₀ buffer a l r = a
+μ-loop b x buffer₀ at k from p s a₀ l₀ r₀ buffer a l r = a
 
 loop-holds : tie.Need-loop-holds Inv-loop μ-loop
-loop-holds c = start _ _ _ _ _ _
+loop-holds c = start _ _ _ _ _ _ _ (c .before .before .pre .5)
 
 sub-m : tie.Need-sub-m Inv-loop μ-loop
 sub-m c = search needs
@@ -37,7 +37,7 @@ put-slots-requires c κs =
     let k = g .before .before in
     let s = k .before .before .before in
     let h = g .height .result in
-    let more : 0 < k .loop .a = search needs in
+    let more : s .args .from < k .loop .a = search needs in
     let hb : h ≤ mostHeight =
     omega (
       arith,
@@ -45,11 +45,11 @@ put-slots-requires c κs =
           (omega (arith, k .loop .inv .within, s .pre .1)),
       g .height .ensures .0,
     ) in
-    let hl : k .loop .l ≤ h = omega (arith, k .loop .inv .anchor more, g .height .ensures .0) in (
+    let hl : k .loop .l ≤ h = omega (arith, k .loop .inv .anchor (omega (arith, more)), g .height .ensures .0) in (
       hl,
       hb,
       omega (arith, k .loop .inv .left, k .loop .inv .size, s .pre .2),
-      slots-room (s .args .b .now) (s .args .s) (s .args .at) (s .args .k) (s .args .p) (s .args .buffer .now)
+      slots-room (s .args .b .now) (s .args .s) (s .args .at) (s .args .k) (s .args .from) (s .args .p) (s .args .buffer .now)
           (s .pre .3) (k .loop .buffer)
           (k .loop .a) (k .loop .l) (k .loop .r) (k .loop .inv) h hl hb,
       s .pre .4,
@@ -68,7 +68,7 @@ sub-r c =
     let k = g .before .before in
     let s = k .before .before .before in
     let h = g .height .result in
-    let more : 0 < k .loop .a = search needs in
+    let more : s .args .from < k .loop .a = search needs in
     let hb : h ≤ mostHeight =
     omega (
       arith,
@@ -76,9 +76,9 @@ sub-r c =
           (omega (arith, k .loop .inv .within, s .pre .1)),
       g .height .ensures .0,
     ) in
-    right-room (s .args .b .now) (s .args .s) (s .args .at) (s .args .k) (s .args .p) (s .args .buffer .now)
+    right-room (s .args .b .now) (s .args .s) (s .args .at) (s .args .k) (s .args .from) (s .args .p) (s .args .buffer .now)
     (s .pre .3) (k .loop .buffer)
-    (k .loop .a) (k .loop .l) (k .loop .r) (k .loop .inv) more h (g .height .ensures .0) hb (f .put-slots .result)
+    (k .loop .a) (k .loop .l) (k .loop .r) (k .loop .inv) more (s .pre .6) h (g .height .ensures .0) hb (f .put-slots .result)
     (f .put-slots .ensures .0)
     (c .anchor .result) (c .anchor .ensures)
 
@@ -104,7 +104,7 @@ put-right-requires c κs =
     let k = g .before .before in
     let s = k .before .before .before in
     let h = g .height .result in
-    let more : 0 < k .loop .a = search needs in
+    let more : s .args .from < k .loop .a = search needs in
     let hb : h ≤ mostHeight =
     omega (
       arith,
@@ -113,9 +113,9 @@ put-right-requires c κs =
       g .height .ensures .0,
     ) in
     let q1 : 1 ≤ f .put-slots .result =
-    right-room (s .args .b .now) (s .args .s) (s .args .at) (s .args .k) (s .args .p) (s .args .buffer .now)
+    right-room (s .args .b .now) (s .args .s) (s .args .at) (s .args .k) (s .args .from) (s .args .p) (s .args .buffer .now)
     (s .pre .3) (k .loop .buffer)
-    (k .loop .a) (k .loop .l) (k .loop .r) (k .loop .inv) more h (g .height .ensures .0) hb (f .put-slots .result)
+    (k .loop .a) (k .loop .l) (k .loop .r) (k .loop .inv) more (s .pre .6) h (g .height .ensures .0) hb (f .put-slots .result)
     (f .put-slots .ensures .0)
     (n .anchor .result) (n .anchor .ensures) in
     let ld : length (f .put-slots .last .0) ≡ length (k .loop .buffer) = search needs in
@@ -136,7 +136,7 @@ loop-less c =
     let s = k .before .before .before in
     let nx : n .anchor .result ≤ k .loop .a - 1 =
     rw (n .anchor .ensures) (nearest-is (s .args .b .now) (g .height .result) (k .loop .a - 1) .before) in
-    let more : 0 < k .loop .a = search needs in
+    let more : s .args .from < k .loop .a = search needs in
     omega (arith, nx, more)
 
 loop-again : tie.Need-loop-again Inv-loop μ-loop
@@ -148,7 +148,7 @@ loop-again c =
     let k = g .before .before in
     let s = k .before .before .before in
     let h = g .height .result in
-    let more : 0 < k .loop .a = search needs in
+    let more : s .args .from < k .loop .a = search needs in
     let hb : h ≤ mostHeight =
     omega (
       arith,
@@ -158,9 +158,9 @@ loop-again c =
     ) in
     let ld : length (f .put-slots .last .0) ≡ length (k .loop .buffer) = search needs in
     let le : length (x .put-right .last .1 .1 .0) ≡ length (f .put-slots .last .0) = search needs in
-    turn (s .args .b .now) (s .args .s) (s .args .at) (s .args .k) (s .args .p) (s .args .buffer .now) (s .pre .3)
+    turn (s .args .b .now) (s .args .s) (s .args .at) (s .args .k) (s .args .from) (s .args .p) (s .args .buffer .now) (s .pre .3)
     (k .loop .buffer)
-    (k .loop .a) (k .loop .l) (k .loop .r) (k .loop .inv) more h (g .height .ensures .0) hb (f .put-slots .result)
+    (k .loop .a) (k .loop .l) (k .loop .r) (k .loop .inv) more (s .pre .6) h (g .height .ensures .0) hb (f .put-slots .result)
     (f .put-slots .ensures .0)
     (n .anchor .result) (n .anchor .ensures) (f .put-slots .last .0) (x .put-right .last .1 .1 .0) (s .pre .4)
     (omega (arith, room (s .args .b .now) (s .args .x) (s .pre .0), s .pre .1)) (s .pre .2) (f .put-slots .ensures .1)
@@ -174,7 +174,7 @@ put-slots-requires-2 c κs =
       k .loop .inv .low,
       omega arith,
       omega (arith, k .loop .inv .left, k .loop .inv .size, s .pre .2),
-      slots-room (s .args .b .now) (s .args .s) (s .args .at) (s .args .k) (s .args .p) (s .args .buffer .now)
+      slots-room (s .args .b .now) (s .args .s) (s .args .at) (s .args .k) (s .args .from) (s .args .p) (s .args .buffer .now)
           (s .pre .3) (k .loop .buffer)
           (k .loop .a) (k .loop .l) (k .loop .r) (k .loop .inv) mostHeight (k .loop .inv .low) (omega arith),
       s .pre .4,
@@ -192,7 +192,7 @@ returns c =
     let f = c .before .before in
     let k = f .before .before .before in
     let s = k .before .before .before in
-    let r = done (s .args .b .now) (s .args .s) (s .args .at) (s .args .k) (s .args .p) (s .args .buffer .now)
+    let r = done (s .args .b .now) (s .args .s) (s .args .at) (s .args .k) (s .args .from) (s .args .p) (s .args .buffer .now)
     (s .pre .3) (k .loop .buffer)
     (f .put-slots2 .last .0) (k .loop .a) (k .loop .l) (k .loop .r) (f .put-slots2 .result) (k .loop .inv)
     (search needs) (s .pre .4) (s .pre .2)

@@ -40,6 +40,8 @@ put-entries-requires c κs =
       omega (arith, l, s .pre .4),
       rw e (entries-count (s .args .b .now) (s .args .x) (s .pre .0) (s .args .p) (s .pre .1) ∙ sym (s .pre .2)),
       rw e (slots-sized _),
+      omega arith,
+      (λ j q u v. absurd (omega (arith, q))),
     )
 
 mul-put-stop : tie.Need-mul-put-stop
