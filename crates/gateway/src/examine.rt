@@ -39,7 +39,7 @@ fn own_fits(own: u64, p: u64) -> bool
 }
 
 // What is found without hashing: form, position, rank.
-fn screen(s: &[u8], p: u64, m: Metadata) -> Finding
+pub fn screen(s: &[u8], p: u64, m: Metadata) -> Finding
     ensures { λ r. ⌜ r ≡ screenedOf (now (s .entry)) p m ⌝ }
 {
     let f = proofbytes::read::form(s);
@@ -61,7 +61,7 @@ fn screen(s: &[u8], p: u64, m: Metadata) -> Finding
     }
 }
 
-fn found(finding: Finding) -> Examined
+pub fn found(finding: Finding) -> Examined
     ensures { λ r. ⌜ r ≡ foundOf finding ⌝ }
 {
     Examined {

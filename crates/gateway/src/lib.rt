@@ -23,8 +23,8 @@ use refusals::Refusal;
 use refusals::Verdict;
 use refusals::Which;
 
-mod climb;
-mod examine;
+pub mod climb;
+pub mod examine;
 mod meeting;
 mod predict;
 pub mod saved;
@@ -60,7 +60,7 @@ fn accepted(tag: [u8; 32], m: Metadata) -> Answer
 }
 
 // 7, 8 and 9 with the proof that they speak of.
-fn blame(f: Finding, w: Which) -> Verdict
+pub fn blame(f: Finding, w: Which) -> Verdict
     ensures { λ r. ⌜ r ≡ blamed w f ⌝ }
 {
     match f {
@@ -72,7 +72,7 @@ fn blame(f: Finding, w: Which) -> Verdict
 }
 
 // The tag at the stop: zeros where own is 0.
-fn shown(s: &[u8]) -> [u8; 32]
+pub fn shown(s: &[u8]) -> [u8; 32]
     requires { ⌜ Sized (now s) ⌝ }
     ensures { λ r. ⌜ r ≡ shown_is (placeOf (now (s .entry)) .item) ⌝ }
 {

@@ -1,0 +1,3 @@
+pub mod Joint
+pub mod Working
+pub mod Demand
