@@ -19,10 +19,12 @@ use Rattle.store.specs.Answers.{applyRules, applyVerdict, applyOf, imageAfter}
 use Rattle.gateway.specs.Saving.{saveRules, saveOf, loadRules, loadOf}
 use Rattle.gateway.specs.Gateway.{gatewayRules, gatewayOf}
 use Rattle.shapes.specs.Shape.{shapeRules, shapeOf, shapeAfter}
+use Rattle.jointstore.specs.Answers as jointstore
+use Rattle.jointgateway.specs.Joint as joint
 use Rattle.demands.specs.Placed.{digestRules, checkRules}
 use Rattle.demands.specs.FirstDemand.{FirstDemand}
 use Rattle.demands.proofs.Laws.{refuses, refused-settled}
-use Rattle.demands.proofs.Placed.{digest-rules, gateway-numbers}
+use Rattle.demands.proofs.Placed.{digest-rules, gateway-numbers, joint-numbers}
 
 -- a digest that is refused is 32 zero bytes
 digest-zeros : (m : List ℕ) (r : Refusal) → verdictOf (digestRules m) ≡ Refused r → digestOf m .bytes ≡ zeros
@@ -37,6 +39,7 @@ digest-zeros m r e = go (order longest (length m))
 pub first-demand : FirstDemand
 unfolding tagOf matchOf saveOf loadOf checkVerdict checkOf proveVerdict proveOf bufferAfter
     applyVerdict applyOf imageAfter shapeOf shapeAfter gatewayOf
+    jointstore.jointVerdict jointstore.jointOf jointstore.bufferAfter joint.jointOf
 first-demand = record {
   digest = λ m r a. refuses _ (digestRules m) _ (a .verdict ∙ digest-rules m) refl
       (λ w e. a .bytes ∙ digest-zeros m w e);
@@ -59,4 +62,8 @@ first-demand = record {
   gateway = λ m k first second r a. refuses _ (gatewayRules m k first second) _ (a .verdict)
       (gateway-numbers m k first second)
       (λ w e. (a .tag ∙ refused-settled _ w _ _ e, a .metadata ∙ refused-settled _ w _ _ e));
+  joint-prove = λ b ps lent at r after a. refuses _ (jointstore.jointRules b ps _ at) _ (a .verdict) refl
+      (λ w e. (a .bytes ∙ refused-settled _ w _ _ e, a .entries, a .buffer ∙ refused-settled _ w _ _ e));
+  joint-check = λ m ps s r a. refuses _ (joint.jointRules m ps s) _ (a .verdict) (joint-numbers m ps s)
+      (λ w e. (a .number ∙ refused-settled _ w _ _ e, a .tags ∙ refused-settled _ w _ _ e, a .metadata));
 }

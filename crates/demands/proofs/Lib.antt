@@ -6,4 +6,5 @@ pub mod Uniqueness
 pub mod SecondDemand
 pub mod ThirdDemand
 pub mod TaggedBlocks
+pub mod MorningCheck
 pub mod Theorems

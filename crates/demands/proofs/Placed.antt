@@ -1,9 +1,9 @@
 -- A refusal comes exactly where document 01 puts it: every call's verdict is that of its list of rules.
 -- Assumes nothing.
-use Prim.Native.Nat.{ℕ, _≤_, _<_}
+use Prim.Native.Nat.{ℕ, suc, _≤_, _<_}
 use mathlib.Core.Path.{_≡_, refl, ap, sym, _∙_}
 use mathlib.Core.Logic.{_⊎_, inl, inr}
-use mathlib.Core.List.{List}
+use mathlib.Core.List.{List, [], _∷_}
 use lib.ListN.{length}
 use borrow.Author.Tests.{lt-ltb, le-ltb}
 use Rattle.refusals.specs.Order.{verdictOf}
@@ -22,6 +22,9 @@ use Rattle.gateway.specs.Saving.{saveRules, saveOf, loadRules, loadOf}
 use Rattle.gateway.specs.Gateway.{secondRules, gatewayRules, gatewayOf}
 use Rattle.shapes.specs.Shape.{shapeRules, shapeOf}
 use Rattle.demands.specs.Words.{numbers, proofs, secondNumbers, gatewayNumbers, secondProofs}
+use Rattle.demands.specs.Words.{placeNumbers, jointNumbers, placesFrom}
+use Rattle.jointstore.specs.Answers as jointstore
+use Rattle.jointgateway.specs.Joint as joint
 use Rattle.demands.specs.Placed.{digestRules, checkRules, Placed}
 use Rattle.demands.proofs.Laws.{placed}
 
@@ -51,8 +54,24 @@ pub gateway-numbers : (m : Metadata) (k : Command) (first second : List ℕ)
     → numbers (gatewayRules m k first second) ≡ gatewayNumbers (k .operation)
 gateway-numbers m k first second = rw (second-numbers (k .operation) m (k .position) first second)
 
+place-numbers : (s : List ℕ) (m : Metadata) (i : ℕ) (ps : List ℕ)
+    → numbers (joint.placeRules s m i ps) ≡ placeNumbers (length ps)
+unfolding joint.placeRules
+place-numbers s m i [] = refl
+place-numbers s m i (p ∷ ps) = ap (λ ns. 7 ∷ 8 ∷ 9 ∷ ns) (place-numbers s m (suc i) ps)
+
+pub joint-numbers : (m : Metadata) (ps s : List ℕ) → numbers (joint.jointRules m ps s) ≡ jointNumbers (length ps)
+joint-numbers m ps s = ap (λ ns. 12 ∷ 13 ∷ 2 ∷ 7 ∷ ns) (place-numbers s m 0 ps)
+
+place-places : (s : List ℕ) (m : Metadata) (i : ℕ) (ps : List ℕ)
+    → proofs (joint.placeRules s m i ps) ≡ placesFrom (suc i) (length ps)
+unfolding joint.placeRules
+place-places s m i [] = refl
+place-places s m i (p ∷ ps) = ap (λ ns. suc i ∷ suc i ∷ suc i ∷ ns) (place-places s m (suc i) ps)
+
 pub all-placed : Placed
 unfolding tagOf matchOf saveOf loadOf checkVerdict checkOf proveVerdict proveOf applyVerdict applyOf shapeOf gatewayOf
+    jointstore.jointVerdict jointstore.jointOf joint.jointOf
 all-placed = record {
   digest = λ m. placed _ (digestRules m) _ (digest-rules m) refl;
   tag = λ time readings. placed _ (tagRules readings) _ refl refl;
@@ -64,5 +83,8 @@ all-placed = record {
   apply = λ b k. placed _ (applyRules b k) _ refl refl;
   shape = λ b room. placed _ (shapeRules b room) _ refl refl;
   gateway = λ m k first second. placed _ (gatewayRules m k first second) _ refl (gateway-numbers m k first second);
+  joint-prove = λ b ps room at. placed _ (jointstore.jointRules b ps room at) _ refl refl;
+  joint-check = λ m ps s. placed _ (joint.jointRules m ps s) _ refl (joint-numbers m ps s);
+  joint-which = λ m ps s. ap (λ ns. 0 ∷ 0 ∷ 0 ∷ 0 ∷ ns) (place-places s m 0 ps);
   which = λ m k first second. rw (second-proofs (k .operation) m (k .position) first second);
 }

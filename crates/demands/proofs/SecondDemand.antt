@@ -37,7 +37,7 @@ use Rattle.demands.specs.SecondDemand.{entryCount, theProof, Room, Prove
 use Rattle.demands.specs.SecondDemand.{SecondDemand}
 
 -- CHECK of a row's image
-check-answers : (bs : List Block) → WithinLimits bs → (spare : List ℕ)
+pub check-answers : (bs : List Block) → WithinLimits bs → (spare : List ℕ)
     → checkOf (imageOf bs ++ spare) ≡ record { verdict = Done; metadata = held bs }
 check-answers bs l spare =
     let c = check-row bs l spare (checkOf (imageOf bs ++ spare)) (record { verdict = refl; metadata = refl }) in

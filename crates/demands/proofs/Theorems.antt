@@ -8,6 +8,8 @@ pub use Rattle.demands.proofs.SecondDemand.{second-demand}
 pub use Rattle.demands.proofs.ThirdDemand.{third-demand}
 -- Demands 2 and 3 over the tags of ask 1: a block that matches what the gateway reports is the one that stands there.
 pub use Rattle.demands.proofs.TaggedBlocks.{tagged-blocks}
+-- Ask 3: the joint proof, its spelling out, and what the store and the gateway make of it.
+pub use Rattle.demands.proofs.MorningCheck.{morning-check}
 -- P1 to P10, with any tags.
 pub use Rattle.demands.proofs.RowOfFive.{row-of-five}
 -- Two outcomes that satisfy a pledge are equal.

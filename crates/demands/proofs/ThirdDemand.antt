@@ -12,6 +12,7 @@ use Rattle.commands.specs.Meaning.{heldSide, metadataOfSide, meaning}
 use Rattle.gateway.specs.Gateway.{gatewayOf}
 use Rattle.gateway.proofs.Demands.{demand3, neighbours-meet}
 use Rattle.gateway.proofs.Honest.{spot-is}
+use Rattle.jointgateway.proofs.JointDemands.{joint-demand-3, metadata-stays}
 use Rattle.demands.specs.ThirdDemand.{held, Collision, Right, ThirdDemand}
 
 right : (bs : List Block) (k : Command) (first second : List ℕ)
@@ -29,4 +30,6 @@ pub third-demand : ThirdDemand
 third-demand = record {
   accepted = λ bs k first second l done. right bs k first second (demand3 (held bs) k first second bs l refl done);
   neighbours = λ bs k first second l refused. neighbours-meet (held bs) k first second bs l refl refused;
+  joint = λ bs ps s l done. joint-demand-3 (held bs) ps s bs l refl done;
+  joint-metadata = λ bs ps s. metadata-stays (held bs) ps s;
 }

@@ -9,6 +9,8 @@ use Rattle.store.proofs.Unique as store
 use Rattle.gateway.proofs.SavedLaws.{save-unique, load-unique}
 use Rattle.gateway.proofs.Pledge as gateway
 use Rattle.shapes.proofs.ShapeLaws.{shape-unique}
+use Rattle.jointstore.proofs.Unique as jointstore
+use Rattle.jointgateway.proofs.Answers as joint
 use Rattle.demands.specs.Uniqueness.{Uniqueness}
 use Rattle.demands.proofs.Laws.{settled-unique, both-unique}
 
@@ -25,4 +27,6 @@ uniqueness = record {
   apply = λ b k. both-unique _ (store.apply-unique b k);
   shape = λ b lent. both-unique _ (shape-unique b lent);
   gateway = gateway.check-unique;
+  joint-prove = λ b ps lent at. both-unique _ (jointstore.prove-unique b ps lent at);
+  joint-check = joint.check-unique;
 }

@@ -11,7 +11,7 @@ use Prim.Native.Nat.{ℕ}
 use mathlib.Core.Path.{_≡_}
 use mathlib.Core.Bool.{false}
 use mathlib.Core.List.{List, [], _∷_}
-use lib.ListN.{replicate}
+use lib.ListN.{length, replicate}
 use Rattle.sha256.specs.declared.Digested.{Digested}
 use Rattle.sha256.specs.Answer.{Answers}
 use Rattle.skiplist.specs.Blocks.{zeros}
@@ -32,7 +32,10 @@ use Rattle.gateway.specs.Saving.{savedSize, Saves, Loads}
 use Rattle.gateway.specs.Gateway as gateway
 use Rattle.shapes.specs.declared.Shaped.{Shaped}
 use Rattle.shapes.specs.Shape.{Shapes}
-use Rattle.demands.specs.Words.{gatewayNumbers, Refuses}
+use Rattle.jointstore.specs.Pledges as jointstore
+use Rattle.jointgateway.specs.declared.Answer as jointgateway
+use Rattle.jointgateway.specs.Joint as joint
+use Rattle.demands.specs.Words.{gatewayNumbers, jointNumbers, Refuses}
 
 pub record FirstDemand : Type 0 where
   -- digest, and digest_joined, whose message m is its two parts joined
@@ -57,3 +60,8 @@ pub record FirstDemand : Type 0 where
   -- the gateway's check of a command
   pub gateway : (m : Metadata) (k : Command) (first second : List ℕ) (r : Answer) → gateway.Checks m k first second r
       → Refuses (r .verdict) (gatewayNumbers (k .operation)) ((r .tag ≡ zeros) × (r .metadata ≡ m))
+  -- ask 3: the store's joint proof of a set of positions, and the gateway's check of one
+  pub joint-prove : (b ps lent : List ℕ) (at : ℕ) (r : Proved) (after : List ℕ) → jointstore.Proves b ps lent at r after
+      → Refuses (r .verdict) (1 ∷ 13 ∷ 2 ∷ 6 ∷ 5 ∷ []) ((r .length ≡ 0) × (r .entries ≡ 0) × (after ≡ lent))
+  pub joint-check : (m : Metadata) (ps s : List ℕ) (r : jointgateway.Answer) → joint.Checks m ps s r
+      → Refuses (r .verdict) (jointNumbers (length ps)) ((r .number ≡ 0) × (r .tags ≡ joint.noTags) × (r .metadata ≡ m))

@@ -4,5 +4,6 @@ pub mod Placed
 pub mod SecondDemand
 pub mod ThirdDemand
 pub mod TaggedBlocks
+pub mod MorningCheck
 pub mod RowOfFive
 pub mod Uniqueness

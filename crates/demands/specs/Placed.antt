@@ -20,7 +20,9 @@ use Rattle.store.specs.Answers.{checkOf, proveRules, proveOf, applyRules, apply
 use Rattle.gateway.specs.Saving.{saveRules, saveOf, loadRules, loadOf}
 use Rattle.gateway.specs.Gateway.{gatewayRules, gatewayOf}
 use Rattle.shapes.specs.Shape.{shapeRules, shapeOf}
-use Rattle.demands.specs.Words.{proofs, gatewayNumbers, gatewayProofs, Exactly}
+use Rattle.jointstore.specs.Answers as jointstore
+use Rattle.jointgateway.specs.Joint as joint
+use Rattle.demands.specs.Words.{proofs, gatewayNumbers, gatewayProofs, jointNumbers, jointPlaces, Exactly}
 
 -- "11 LONG MESSAGE: over 4,096 bytes to digest"
 abbrev pub digestRules : List ℕ → List Rule
@@ -47,3 +49,9 @@ pub record Placed : Type 0 where
       → Exactly (gatewayOf m k first second .verdict) (gatewayRules m k first second) (gatewayNumbers (k .operation))
   pub which : (m : Metadata) (k : Command) (first second : List ℕ)
       → proofs (gatewayRules m k first second) ≡ gatewayProofs (k .operation)
+  -- ask 3: the store 1, 13, 2, 6, 5; the gateway 12, 13, 2, 7 with place 0, then 7, 8, 9 by place
+  pub joint-prove : (b ps : List ℕ) (room at : ℕ)
+      → Exactly (jointstore.jointOf b ps room at .verdict) (jointstore.jointRules b ps room at) (1 ∷ 13 ∷ 2 ∷ 6 ∷ 5 ∷ [])
+  pub joint-check : (m : Metadata) (ps s : List ℕ)
+      → Exactly (joint.jointOf m ps s .verdict) (joint.jointRules m ps s) (jointNumbers (length ps))
+  pub joint-which : (m : Metadata) (ps s : List ℕ) → proofs (joint.jointRules m ps s) ≡ jointPlaces (length ps)

@@ -5,13 +5,16 @@
 -- the other in labelling the archive before the edit." And where the metadata belongs to an archive, "10 comes only
 -- with an equal-digest pair." The digest is SHA-256; the proofs are any bytes.
 -- Assumes nothing.
-use Prim.Native.Nat.{ℕ}
+use Prim.Native.Nat.{ℕ, _*_, _<_}
 use mathlib.Core.Path.{_≡_}
 use mathlib.Core.Logic.{_⊎_}
 use mathlib.Core.List.{List}
+use lib.ListN.{length, getD}
+use Rattle.octets.specs.Runs.{part}
 use Rattle.refusals.specs.declared.Refusal.the-variants.{NotNeighbours}
 use Rattle.refusals.specs.declared.Verdict.the-variants.{Done, Refused}
 use Rattle.sha256.specs.Hash.{sha256}
+use Rattle.skiplist.specs.Limits.{digestBytes}
 use Rattle.skiplist.specs.Messages.{treeMessages}
 use Rattle.skiplist.specs.Clash.{Clash}
 use Rattle.skiplist.specs.Blocks.{Block, WithinLimits, root, metadataOf, tagAt}
@@ -21,6 +24,8 @@ use Rattle.commands.specs.declared.Command.{Command}
 use Rattle.commands.specs.Meaning.{metadataOfSide, meaning}
 use Rattle.gateway.specs.Gateway.{gatewayOf}
 use Rattle.gateway.specs.Hashing.{gatewayMessages}
+use Rattle.jointgateway.specs.Joint.{jointOf}
+use Rattle.jointgateway.specs.Demand.{JointClash}
 
 -- count and root label of a row, labelled afresh
 abbrev pub held : List Block → Metadata
@@ -41,3 +46,9 @@ pub record ThirdDemand : Type 0 where
       → gatewayOf (held bs) k first second .verdict ≡ Done → Collision bs k first second ⊎ Right bs k first second
   pub neighbours : (bs : List Block) (k : Command) (first second : List ℕ) → WithinLimits bs
       → gatewayOf (held bs) k first second .verdict ≡ Refused NotNeighbours → Collision bs k first second
+  -- ask 3, "demand 3 holds for each tag, stated once over the number of positions": the i-th tag is the one at the i-th position; the
+  -- metadata stays
+  pub joint : (bs : List Block) (ps s : List ℕ) → WithinLimits bs → jointOf (held bs) ps s .verdict ≡ Done → (i : ℕ) → i < length ps
+      → JointClash (held bs) ps s bs
+      ⊎ (part (jointOf (held bs) ps s .tags) (digestBytes * i) digestBytes ≡ tagAt (getD ps i 0) bs)
+  pub joint-metadata : (bs : List Block) (ps s : List ℕ) → jointOf (held bs) ps s .metadata ≡ held bs

@@ -17,6 +17,8 @@ use Rattle.gateway.specs.Saving.{Saves, Loads}
 use Rattle.gateway.specs.Gateway as gateway
 use Rattle.shapes.specs.declared.Shaped.{Shaped}
 use Rattle.shapes.specs.Shape.{Shapes}
+use Rattle.jointstore.specs.Pledges as jointstore
+use Rattle.jointgateway.specs.Joint as joint
 use Rattle.demands.specs.Words.{Unique}
 
 pub record Uniqueness : Type 0 where
@@ -32,3 +34,5 @@ pub record Uniqueness : Type 0 where
   pub apply : (b : List ℕ) (k : Command) → Unique (λ (o : Applied × List ℕ). store.Applies b k (o .0) (o .1))
   pub shape : (b lent : List ℕ) → Unique (λ (o : Shaped × List ℕ). Shapes b lent (o .0) (o .1))
   pub gateway : (m : Metadata) (k : Command) (first second : List ℕ) → Unique (gateway.Checks m k first second)
+  pub joint-prove : (b ps lent : List ℕ) (at : ℕ) → Unique (λ (o : Proved × List ℕ). jointstore.Proves b ps lent at (o .0) (o .1))
+  pub joint-check : (m : Metadata) (ps s : List ℕ) → Unique (joint.Checks m ps s)

@@ -1,7 +1,7 @@
 -- The words that the demands are said in: a verdict's number among some, what a refusal leaves, a refusal exactly where
 -- its rule puts it, and a pledge that settles its outcome.
 -- Assumes nothing.
-use Prim.Native.Nat.{ℕ}
+use Prim.Native.Nat.{ℕ, zero, suc}
 use mathlib.Core.Path.{_≡_}
 use mathlib.Core.Logic.{_⊎_}
 use mathlib.Core.List.{List, [], _∷_, map}
@@ -46,6 +46,23 @@ secondProofs Delete = 2 ∷ 2 ∷ 2 ∷ 0 ∷ []
 
 abbrev pub gatewayProofs : Operation → List ℕ
 gatewayProofs o = 0 ∷ 0 ∷ 0 ∷ 0 ∷ 1 ∷ 1 ∷ 1 ∷ secondProofs o
+
+-- of a joint proof of n positions: "13 .. after 12; then 2; .. then 7 with place 0 .., then the first refusal of the spelled-out proofs,
+-- with its place"
+abbrev pub placeNumbers : ℕ → List ℕ
+placeNumbers zero = []
+placeNumbers (suc n) = 7 ∷ 8 ∷ 9 ∷ placeNumbers n
+
+abbrev pub jointNumbers : ℕ → List ℕ
+jointNumbers n = 12 ∷ 13 ∷ 2 ∷ 7 ∷ placeNumbers n
+
+-- the places, from i on
+abbrev pub placesFrom : ℕ → ℕ → List ℕ
+placesFrom i zero = []
+placesFrom i (suc n) = i ∷ i ∷ i ∷ placesFrom (suc i) n
+
+abbrev pub jointPlaces : ℕ → List ℕ
+jointPlaces n = 0 ∷ 0 ∷ 0 ∷ 0 ∷ placesFrom 1 n
 
 -- nothing is refused (0) or one of the numbers is given; and where it is, Back holds
 pub record Refuses (v : Verdict) (ns : List ℕ) (Back : Type 0) : Type 0 where
