@@ -1,12 +1,14 @@
 /*
  * Quaythistle: the gateway and the store of an archive, for C and C++.
  *
- * Link with libquaythistle.a (`rt staticlib quaythistle` writes target/staticlib/libquaythistle.a, for x86-64 Linux). It needs memcpy and
- * memmove of the C library and nothing else: no call allocates, keeps anything between calls, reads or writes a file, or fails in a way
- * that its answer does not tell. Calls on different buffers may run at once.
+ * Link with libquaythistle.a (`rt staticlib quaythistle` writes target/staticlib/libquaythistle.a, for x86-64 Linux). It needs memcpy,
+ * memmove and memset of the C library and nothing else: no call allocates, keeps anything between calls, reads or writes a file, or fails
+ * in a way that its answer does not tell. Calls on different buffers may run at once.
  *
  * No call recurses. For a task with a small stack: a digest, a tag, a match and a height take less than 1 KiB of it, the gateway's calls
- * less than 2 KiB, the store's and the shape less than 9 KiB, beside the arguments that the caller passes by value.
+ * less than 2 KiB, the store's and the shape less than 9 KiB, beside the arguments that the caller passes by value and the answer that it
+ * gets. The gateway's check of a joint proof takes more, since it spells each proof out in a buffer of 7,677 bytes on the stack: less than
+ * 12 KiB, beside an answer of 1,080 bytes.
  *
  * Every call takes whatever C can pass and answers or refuses it by number. A refusal changes no lent byte.
  *
@@ -35,6 +37,7 @@ extern "C" {
 #define QT_MOST_ENTRIES 200      /* entries in a path that is proved */
 #define QT_LONGEST_MESSAGE 4096  /* bytes of a message to digest */
 #define QT_LONGEST_READINGS 4089 /* bytes of a block's readings, before which 7 more are digested */
+#define QT_MOST_POSITIONS 32     /* positions in a joint proof */
 
 /* Sizes in bytes. */
 #define QT_DIGEST_SIZE 32 /* a digest, a tag, a label */
@@ -43,27 +46,34 @@ extern "C" {
 #define QT_PROOF_SIZE(k) (77 + 38 * (size_t)(k)) /* a proof with k entries */
 #define QT_LONGEST_IMAGE QT_IMAGE_SIZE(QT_MOST_BLOCKS)
 #define QT_LONGEST_PROOF QT_PROOF_SIZE(QT_MOST_ENTRIES)
+/* the joint proof of m positions, at least one, with k entries in all that are not shared */
+#define QT_JOINT_SIZE(m, k) (4 + 76 * (size_t)(m) + 38 * (size_t)(k))
+#define QT_LONGEST_JOINT QT_JOINT_SIZE(QT_MOST_POSITIONS, QT_MOST_POSITIONS * QT_MOST_ENTRIES) /* none is longer */
 
 /* What comes back when a call will not: `refusal` of a qt_verdict. */
 enum {
     QT_DONE = 0,            /* nothing was refused */
     QT_BAD_IMAGE = 1,       /* buffer under 7 bytes, version not 1, length not 2 + 33n, n over 4,096, buffer shorter than the image, or
                                a height over 15 */
-    QT_BAD_POSITION = 2,    /* outside the command's range; an operation over 3 names no command, so no position is in its range */
+    QT_BAD_POSITION = 2,    /* outside the command's range, for a joint proof outside 1 to n; an operation over 3 names no command, so no
+                               position is in its range */
     QT_BAD_HEIGHT = 3,      /* Insert with height over 15 */
     QT_FULL = 4,            /* Insert with n = 4,096 */
-    QT_NO_ROOM = 5,         /* proof, grown image or numbers of entries do not fit their buffer */
+    QT_NO_ROOM = 5,         /* proof, joint proof, grown image or numbers of entries do not fit their buffer */
     QT_TOO_DEEP = 6,        /* path of more than 200 entries */
     QT_BAD_PROOF = 7,       /* bytes break a rule of the proof's form, or the lent bytes are not exactly 77 + 38k for some k from 0 to
-                               200 with that length stated */
+                               200 with that length stated; for place 0 of a joint proof: version not 1, length not stated, number not
+                               that of the positions asked, a kind over 2, bytes short or over, or a shared number not the largest */
     QT_WRONG_POSITION = 8,  /* proved position is not the one wanted, or stop's own is not 1 (0 for position 0) */
     QT_WRONG_LABEL = 9,     /* proved rank is not the count, or recomputed root label is not the one held */
     QT_NOT_NEIGHBOURS = 10, /* Delete's proofs do not meet */
     QT_LONG_MESSAGE = 11,   /* over 4,096 bytes to digest; so for a block, readings over 4,089 bytes */
-    QT_BAD_METADATA = 12    /* count over 4,096, or saved bytes not of the stated form */
+    QT_BAD_METADATA = 12,   /* count over 4,096, or saved bytes not of the stated form */
+    QT_BAD_SET = 13         /* positions of a joint proof: none, over 32, or one not above the one before */
 };
 
-/* Which proof 7, 8 and 9 speak of: `proof` of a qt_verdict. */
+/* Which proof 7, 8 and 9 speak of: `proof` of a qt_verdict. Of a joint proof it is the place instead: 0 the joint proof's own form (7 alone),
+ * 1 to 32 the proof spelled out for the first, second, .. of the positions. */
 enum {
     QT_NO_PROOF = 0, /* the call is done, or its refusal speaks of no proof */
     QT_FIRST = 1,    /* the first proof, or the only one */
@@ -85,8 +95,8 @@ typedef struct {
 
 /* Whether a call is done, or why not. */
 typedef struct {
-    uint32_t refusal; /* QT_DONE, or the refusal's number, 1 to 12 */
-    uint32_t proof;   /* which proof the refusal speaks of: QT_NO_PROOF, QT_FIRST or QT_SECOND */
+    uint32_t refusal; /* QT_DONE, or the refusal's number, 1 to 13 */
+    uint32_t proof;   /* which proof the refusal speaks of: QT_NO_PROOF, QT_FIRST or QT_SECOND; of a joint proof the place, 0 to 32 */
 } qt_verdict;
 
 /* Metadata: what the gateway holds of an archive. */
@@ -125,7 +135,7 @@ typedef struct {
 typedef struct {
     qt_verdict verdict;
     uint64_t length;  /* the proof's length in bytes, 77 + 38k */
-    uint64_t entries; /* k, the entries in the path */
+    uint64_t entries; /* k, the entries in the path; 0 for a joint proof, which has many */
 } qt_proved;
 
 /* A number of blocks; 0 where the call is refused. */
@@ -146,6 +156,14 @@ typedef struct {
     qt_digest tag;        /* the tag at p before the edit, 32 zero bytes for p = 0; Delete so reports the tag removed */
     qt_metadata metadata; /* the new metadata, worked out from the proofs */
 } qt_answer;
+
+/* The gateway's answer to a joint proof; number 0 and zero tags where it is refused. */
+typedef struct {
+    qt_verdict verdict;
+    uint64_t number;                   /* the number of tags, that of the positions */
+    qt_digest tags[QT_MOST_POSITIONS]; /* the tags at the positions, in their order; zero from `number` on */
+    qt_metadata metadata;              /* the metadata given */
+} qt_joint_answer;
 
 /* SHA-256 (FIPS 180-4) of a message. Refuses with 11. */
 qt_digested qt_sha256_digest(const uint8_t *message, size_t length);
@@ -191,6 +209,18 @@ qt_metadata_answer qt_gateway_load(const uint8_t *saved, size_t length);
  * same on the second, then 10, in this order. */
 qt_answer qt_gateway_check(qt_metadata metadata, qt_command command, const uint8_t *first, size_t first_length, const uint8_t *second,
                            size_t second_length);
+
+/* The store proves a set of positions, each 1 to n and above the one before, at most 32 of them, by one joint proof: version 1, length of the
+ * rest in four bytes, number of positions in one, then the proofs without their headers, from the second on each with the number of leading
+ * entries that it shares with the one before, in two bytes, in place of those entries. It begins at the given place in the buffer; other
+ * bytes stay. `number` counts positions. Refuses with 1, 13, 2, 6, 5, in this order. */
+qt_proved qt_jointstore_prove(const uint8_t *QT_ALONE image, size_t length, const uint64_t *QT_ALONE positions, size_t number,
+                              uint8_t *QT_ALONE buffer, size_t room, uint64_t place);
+
+/* The gateway's check of a joint proof of these positions against the metadata it holds: accepted exactly when it has the stated form and
+ * Read of each position accepts its proof, spelled out. Refuses with 12, 13, 2, then 7 with place 0 for the joint proof's form, then 7, 8, 9
+ * of the first proof with place 1, the same of the second with place 2, and so on, in this order. */
+qt_joint_answer qt_jointgateway_check(qt_metadata metadata, const uint64_t *positions, size_t number, const uint8_t *proof, size_t length);
 
 #ifdef __cplusplus
 }

@@ -455,6 +455,257 @@ static void refused_neighbours(void) {
     CHECK(done(a.verdict) && same(a.tag, tag) && same_metadata(a.metadata, held));
 }
 
+/* Joint proofs. Positions of the row of five, and a joint proof of them. */
+#define FIVE_JOINT QT_JOINT_SIZE(5, 5 * 4)
+
+typedef struct {
+    uint8_t bytes[FIVE_JOINT];
+    size_t length;
+} joint;
+
+static const uint64_t all_five[5] = {1, 2, 3, 4, 5};
+
+static joint joint_at(const uint64_t *positions, size_t number) {
+    joint s = {.length = 0};
+    s.length = qt_jointstore_prove(five, sizeof five, positions, number, s.bytes, sizeof s.bytes, 0).length;
+    return s;
+}
+
+static qt_joint_answer joint_asked(qt_metadata held, const uint64_t *positions, size_t number, const joint *s) {
+    return qt_jointgateway_check(held, positions, number, s->bytes, s->length);
+}
+
+static void put(joint *s, const uint8_t *bytes, size_t length) {
+    memcpy(s->bytes + s->length, bytes, length);
+    s->length += length;
+}
+
+/* The leading entries that two proofs share, each of 38 bytes after a header of 3. */
+static size_t shared(const proof *a, const proof *b) {
+    size_t k = 0, most = ((a->length < b->length ? a->length : b->length) - 77) / 38;
+    while (k < most && memcmp(a->bytes + 3 + 38 * k, b->bytes + 3 + 38 * k, 38) == 0) k += 1;
+    return k;
+}
+
+/* The joint proof put together from the store's single proofs; at one place, if any, with an entry that is not shared though it could be. */
+static joint put_together(const uint64_t *positions, size_t number, size_t unshared) {
+    joint s = {.length = 6};
+    proof before = {.length = 77};
+    for (size_t i = 0; i < number; i += 1) {
+        proof at = proof_at(positions[i]);
+        size_t k = i == 0 ? 0 : shared(&before, &at) - (i + 1 == unshared);
+        uint8_t two[2] = {(uint8_t)(k >> 8), (uint8_t)k};
+        if (i > 0) put(&s, two, 2);
+        put(&s, at.bytes + 3 + 38 * k, at.length - 3 - 38 * k);
+        before = at;
+    }
+    uint8_t head[6] = {1, 0, 0, (uint8_t)((s.length - 5) >> 8), (uint8_t)(s.length - 5), (uint8_t)number};
+    memcpy(s.bytes, head, 6);
+    return s;
+}
+
+/* The set of positions that the bits of a number name. */
+static size_t set_of(unsigned bits, uint64_t positions[5]) {
+    size_t number = 0;
+    for (unsigned p = 1; p <= 5; p += 1)
+        if (bits >> (p - 1) & 1) positions[number++] = p;
+    return number;
+}
+
+/* Every set of positions of the row of five: the store writes its joint proof and nothing else, and the gateway reports its tags. */
+static void joint_proofs(void) {
+    fill_five();
+    qt_metadata held = qt_store_check(five, sizeof five).metadata;
+    uint8_t buffer[FIVE_JOINT + 4];
+    uint64_t positions[5];
+    for (unsigned bits = 1; bits < 32; bits += 1) {
+        size_t number = set_of(bits, positions);
+        joint wanted = put_together(positions, number, 0);
+        memset(buffer, 0xA5, sizeof buffer);
+        qt_proved r = qt_jointstore_prove(five, sizeof five, positions, number, buffer, sizeof buffer, 2);
+        CHECK(done(r.verdict) && r.length == wanted.length && r.entries == 0);
+        CHECK(memcmp(buffer + 2, wanted.bytes, wanted.length) == 0);
+        bool stay = buffer[0] == 0xA5 && buffer[1] == 0xA5;
+        for (size_t i = 2 + wanted.length; i < sizeof buffer; i += 1) stay = stay && buffer[i] == 0xA5;
+        CHECK(stay);
+        qt_joint_answer a = joint_asked(held, positions, number, &wanted);
+        bool tags = done(a.verdict) && a.number == number && same_metadata(a.metadata, held);
+        for (size_t i = 0; i < QT_MOST_POSITIONS; i += 1) tags = tags && same(a.tags[i], i < number ? letter(positions[i] - 1) : ZERO);
+        CHECK(tags);
+    }
+}
+
+static uint8_t long_joint[QT_LONGEST_JOINT];
+
+/* Rising positions; the last but one is the one given. */
+static void fill_last(uint64_t positions[QT_MOST_POSITIONS + 1], uint64_t last) {
+    for (uint64_t i = 0; i <= QT_MOST_POSITIONS; i += 1) positions[i] = last + 1 - QT_MOST_POSITIONS + i;
+}
+
+/* As many positions as there can be, with paths as long as they can be: the last 32 of 200 columns of height 0 share all but one entry. */
+static void most_positions(void) {
+    uint64_t positions[QT_MOST_POSITIONS + 1];
+    size_t size = fill_flat(200);
+    fill_last(positions, 200);
+    qt_metadata held = qt_store_check(flat, size).metadata;
+    qt_proved r = qt_jointstore_prove(flat, size, positions, QT_MOST_POSITIONS, long_joint, sizeof long_joint, 0);
+    CHECK(done(r.verdict) && r.length == QT_JOINT_SIZE(32, 200));
+    qt_joint_answer a = qt_jointgateway_check(held, positions, QT_MOST_POSITIONS, long_joint, r.length);
+    CHECK(done(a.verdict) && a.number == QT_MOST_POSITIONS && same_metadata(a.metadata, held));
+    long_joint[r.length - 1] ^= 1;
+    a = qt_jointgateway_check(held, positions, QT_MOST_POSITIONS, long_joint, r.length);
+    CHECK(is(a.verdict, QT_BAD_PROOF, QT_MOST_POSITIONS));
+}
+
+/* The proof of column 201 after that of column 200 has an entry too many: the store refuses to write it, and the gateway to take it. */
+static void one_entry_too_many(void) {
+    static const uint64_t positions[2] = {200, 201};
+    size_t size = fill_flat(201);
+    qt_metadata held = qt_store_check(flat, size).metadata;
+    size_t length = qt_jointstore_prove(flat, size, positions, 1, long_joint, sizeof long_joint, 0).length;
+    CHECK(length == QT_JOINT_SIZE(1, 200));
+    uint8_t more[2 + 38 + 74] = {0, 200, [2] = 1, [2 + 5] = 1, [2 + 38] = 2, [2 + 38 + 5] = 1};
+    memcpy(long_joint + length, more, sizeof more);
+    length += sizeof more;
+    long_joint[3] = (uint8_t)((length - 5) >> 8);
+    long_joint[4] = (uint8_t)(length - 5);
+    long_joint[5] = 2;
+    qt_joint_answer a = qt_jointgateway_check(held, positions, 2, long_joint, length);
+    CHECK(is(a.verdict, QT_BAD_PROOF, 2));
+}
+
+/* What the store refuses of a set, in its order: an earlier reason is given though later ones are there too. */
+static const uint64_t twice[2] = {2, 2}, falling[2] = {4, 2}, from_zero[2] = {0, 3}, past[2] = {3, 6}, far[2] = {3, UINT64_MAX};
+static const uint64_t falling_past[3] = {0, 9, 6};
+
+static bool joint_refused(const uint64_t *positions, size_t number, uint8_t *buffer, size_t room, uint64_t place, uint32_t refusal) {
+    return proof_refused(qt_jointstore_prove(five, sizeof five, positions, number, buffer, room, place), refusal);
+}
+
+static void refused_sets(void) {
+    uint8_t buffer[FIVE_JOINT], before[sizeof buffer];
+    uint64_t many[QT_MOST_POSITIONS + 1];
+    memset(buffer, 0xA5, sizeof buffer);
+    memcpy(before, buffer, sizeof buffer);
+    fill_five();
+    fill_last(many, 33);
+    CHECK(proof_refused(qt_jointstore_prove(NULL, 0, NULL, 0, buffer, sizeof buffer, 0), QT_BAD_IMAGE));
+    CHECK(proof_refused(qt_jointstore_prove(five, 6, falling, 2, buffer, sizeof buffer, 0), QT_BAD_IMAGE));
+    CHECK(joint_refused(NULL, 0, buffer, sizeof buffer, 0, QT_BAD_SET));
+    CHECK(joint_refused(many, QT_MOST_POSITIONS + 1, buffer, sizeof buffer, 0, QT_BAD_SET));
+    CHECK(joint_refused(twice, 2, buffer, sizeof buffer, 0, QT_BAD_SET));
+    CHECK(joint_refused(falling, 2, buffer, sizeof buffer, 0, QT_BAD_SET));
+    CHECK(joint_refused(falling_past, 3, buffer, sizeof buffer, 0, QT_BAD_SET));
+    CHECK(joint_refused(many, QT_MOST_POSITIONS, buffer, 0, 0, QT_BAD_POSITION));
+    CHECK(joint_refused(from_zero, 2, buffer, sizeof buffer, 0, QT_BAD_POSITION));
+    CHECK(joint_refused(past, 2, buffer, sizeof buffer, 0, QT_BAD_POSITION));
+    CHECK(joint_refused(far, 2, NULL, 0, 0, QT_BAD_POSITION));
+    size_t fits = joint_at(all_five, 5).length;
+    CHECK(joint_refused(all_five, 5, buffer, fits - 1, 0, QT_NO_ROOM));
+    CHECK(joint_refused(all_five, 5, buffer, fits, 1, QT_NO_ROOM));
+    CHECK(joint_refused(all_five, 5, buffer, sizeof buffer, UINT64_MAX, QT_NO_ROOM));
+    CHECK(joint_refused(all_five, 5, NULL, 0, 0, QT_NO_ROOM));
+    static const uint64_t deep[2] = {200, 201}, deeper[2] = {201, 202};
+    size_t size = fill_flat(201);
+    CHECK(proof_refused(qt_jointstore_prove(flat, size, deep, 2, buffer, 0, 0), QT_TOO_DEEP));
+    CHECK(proof_refused(qt_jointstore_prove(flat, size, deeper, 2, buffer, 0, 0), QT_BAD_POSITION));
+    CHECK(memcmp(buffer, before, sizeof buffer) == 0);
+    CHECK(done(qt_jointstore_prove(five, sizeof five, all_five, 5, buffer, fits, 0).verdict));
+}
+
+/* What the gateway refuses of a joint proof: no tag, and the metadata given. */
+static void joint_answer_refused(qt_metadata held, const uint64_t *positions, size_t number, const joint *s, uint32_t refusal,
+                                 uint32_t place, int line) {
+    qt_joint_answer a = joint_asked(held, positions, number, s);
+    bool none = a.number == 0;
+    for (size_t i = 0; i < QT_MOST_POSITIONS; i += 1) none = none && same(a.tags[i], ZERO);
+    check(is(a.verdict, refusal, place), "the refusal and the place it speaks of", line);
+    check(none, "no tag", line);
+    check(same_metadata(a.metadata, held), "the metadata given", line);
+}
+
+#define JOINT_REFUSED(held, positions, number, s, refusal, place) joint_answer_refused(held, positions, number, s, refusal, place, __LINE__)
+
+static void refused_joint_openings(void) {
+    fill_five();
+    qt_metadata held = qt_store_check(five, sizeof five).metadata, over = held;
+    over.count = QT_MOST_BLOCKS + 1;
+    uint64_t many[QT_MOST_POSITIONS + 1];
+    fill_last(many, 33);
+    joint s = joint_at(all_five, 5), none = {.length = 0};
+    JOINT_REFUSED(over, all_five, 5, &s, QT_BAD_METADATA, 0);
+    JOINT_REFUSED(over, falling, 2, &none, QT_BAD_METADATA, 0);
+    JOINT_REFUSED(held, NULL, 0, &none, QT_BAD_SET, 0);
+    JOINT_REFUSED(held, many, QT_MOST_POSITIONS + 1, &s, QT_BAD_SET, 0);
+    JOINT_REFUSED(held, twice, 2, &s, QT_BAD_SET, 0);
+    JOINT_REFUSED(held, falling_past, 3, &none, QT_BAD_SET, 0);
+    JOINT_REFUSED(held, from_zero, 2, &none, QT_BAD_POSITION, 0);
+    JOINT_REFUSED(held, past, 2, &s, QT_BAD_POSITION, 0);
+    JOINT_REFUSED(held, far, 2, &s, QT_BAD_POSITION, 0);
+    qt_joint_answer a = qt_jointgateway_check(held, all_five, 5, NULL, 0);
+    CHECK(is(a.verdict, QT_BAD_PROOF, 0) && a.number == 0);
+}
+
+/* A byte of a joint proof changed. */
+static joint changed(joint s, size_t at, uint8_t by) {
+    s.bytes[at] ^= by;
+    return s;
+}
+
+/* Where the stop of the proof at a place begins: the joint proof of the positions up to there ends with it. */
+static size_t stop_of(const uint64_t *positions, size_t place) { return joint_at(positions, place).length - 74; }
+
+static void refused_forms(void) {
+    fill_five();
+    qt_metadata held = qt_store_check(five, sizeof five).metadata;
+    joint s = joint_at(all_five, 5);
+    for (size_t at = 0; at < 6; at += 1) {
+        joint head = changed(s, at, 1);
+        JOINT_REFUSED(held, all_five, 5, &head, QT_BAD_PROOF, 0);
+    }
+    for (size_t length = 0; length <= sizeof s.bytes; length += 1) {
+        joint other = s;
+        if (length == s.length) continue;
+        other.length = length;
+        if (length >= 6) other.bytes[3] = (uint8_t)((length - 5) >> 8), other.bytes[4] = (uint8_t)(length - 5);
+        JOINT_REFUSED(held, all_five, 5, &other, QT_BAD_PROOF, 0);
+    }
+    for (size_t place = 1; place <= 5; place += 1) {
+        joint kind = changed(s, stop_of(all_five, place), 1);
+        JOINT_REFUSED(held, all_five, 5, &kind, QT_BAD_PROOF, 0);
+        if (place == 1) continue;
+        joint over = changed(s, stop_of(all_five, place - 1) + 74, 1);
+        JOINT_REFUSED(held, all_five, 5, &over, QT_BAD_PROOF, 0);
+        if (place == 2) continue; /* the proofs of 1 and 2 share nothing */
+        joint under = put_together(all_five, 5, place);
+        JOINT_REFUSED(held, all_five, 5, &under, QT_BAD_PROOF, 0);
+    }
+    joint four = joint_at(all_five, 4);
+    JOINT_REFUSED(held, all_five, 5, &four, QT_BAD_PROOF, 0);
+    JOINT_REFUSED(held, all_five, 4, &s, QT_BAD_PROOF, 0);
+}
+
+/* 7, 8 and 9 of one of its proofs, with its place; what is wrong with a later one is not told. */
+static void refused_places(void) {
+    static const uint64_t others[4][5] = {{2, 3, 4, 5}, {1, 3, 4, 5}, {1, 2, 4, 5}, {1, 2, 3, 5}};
+    fill_five();
+    qt_metadata held = qt_store_check(five, sizeof five).metadata;
+    joint s = joint_at(all_five, 5);
+    for (uint32_t place = 1; place <= 5; place += 1) {
+        size_t stop = stop_of(all_five, place);
+        joint own = changed(s, stop + 5, 2), tag = changed(s, stop + 6, 1);
+        JOINT_REFUSED(held, all_five, 5, &own, QT_BAD_PROOF, place);
+        JOINT_REFUSED(held, all_five, 5, &tag, QT_WRONG_LABEL, place);
+        if (place == 5) continue;
+        joint both = changed(tag, stop_of(all_five, 5) + 5, 2), other = joint_at(others[place - 1], 4);
+        JOINT_REFUSED(held, all_five, 5, &both, QT_WRONG_LABEL, place);
+        JOINT_REFUSED(held, all_five, 4, &other, QT_WRONG_POSITION, place);
+    }
+    qt_metadata another = held;
+    another.label = ZERO;
+    JOINT_REFUSED(another, all_five, 5, &s, QT_WRONG_LABEL, 1);
+}
+
 int main(void) {
     fill_pattern();
     digests();
@@ -474,6 +725,13 @@ int main(void) {
     refused_openings();
     refused_checks();
     refused_neighbours();
+    joint_proofs();
+    most_positions();
+    one_entry_too_many();
+    refused_sets();
+    refused_joint_openings();
+    refused_forms();
+    refused_places();
     printf("%d passed, %d failed\n", passed, failed);
     return failed != 0;
 }

@@ -52,8 +52,15 @@ AT(qt_answer, verdict, 0);
 AT(qt_answer, tag, 8);
 AT(qt_answer, metadata, 40);
 
+SIZE(qt_joint_answer, 1080);
+AT(qt_joint_answer, verdict, 0);
+AT(qt_joint_answer, number, 8);
+AT(qt_joint_answer, tags, 16);
+AT(qt_joint_answer, metadata, 1040);
+
 static_assert(QT_LONGEST_IMAGE == 135175, "the longest image");
 static_assert(QT_LONGEST_PROOF == 7677, "the longest proof");
+static_assert(QT_LONGEST_JOINT == 245636, "the longest joint proof");
 static_assert(7 + QT_LONGEST_READINGS == QT_LONGEST_MESSAGE, "the longest readings");
 
 #undef AT

@@ -12,6 +12,10 @@ const RECORD: usize = 33;
 /// The longest proof: 77 bytes and 200 entries of 38.
 const LONGEST_PROOF: usize = 77 + 38 * 200;
 
+/// No joint proof is longer: a header of 6 bytes, and for each of 32 positions a shared number of 2 (but for the first), 200 entries of 38 and
+/// a stop of 74.
+const LONGEST_JOINT: usize = 6 + 32 * (2 + 38 * 200 + 74) - 2;
+
 /// An archive image with no spare bytes, which grows and shrinks as blocks come and go: 5, NO ROOM, does not come.
 #[derive(Clone, Debug, PartialEq, Eq, Hash)]
 pub struct Image {
@@ -24,6 +28,12 @@ pub struct Image {
 pub struct Proof {
     bytes: Vec<u8>,
     entries: usize,
+}
+
+/// A joint proof of a set of positions.
+#[derive(Clone, Debug, PartialEq, Eq, Hash)]
+pub struct JointProof {
+    bytes: Vec<u8>,
 }
 
 fn size(count: u64) -> usize {
@@ -91,6 +101,29 @@ impl Image {
         })
     }
 
+    /// The joint proof of a set of positions, each 1 to n and above the one before, at most 32 of them. Refuses with 13, 2, 6, in this order.
+    ///
+    /// ```
+    /// # fn main() -> Result<(), quaythistle::Refusal> {
+    /// use quaythistle::{Command, Image, Refusal};
+    /// let mut image = Image::new();
+    /// for position in 0..4 {
+    ///     image.apply(&Command::Insert { position, height: 0, tag: [7; 32] })?;
+    /// }
+    /// let single: usize = (2..=4).map(|p| image.prove(p).unwrap().as_bytes().len()).sum();
+    /// assert_eq!((image.prove_joint(&[2, 3, 4])?.as_bytes().len(), single), (384, 573));
+    /// assert_eq!(image.prove_joint(&[]), Err(Refusal::BadSet));
+    /// assert_eq!(image.prove_joint(&[4, 5]), Err(Refusal::BadPosition));
+    /// # Ok(())
+    /// # }
+    /// ```
+    pub fn prove_joint(&self, positions: &[u64]) -> Result<JointProof, Refusal> {
+        let mut bytes = vec![0; LONGEST_JOINT];
+        let length = store::prove_joint(&self.bytes, positions, &mut bytes, 0)?;
+        bytes.truncate(length);
+        Ok(JointProof { bytes })
+    }
+
     /// Applies a command, and answers the new count. Refuses with 2, 3, 4, in this order.
     ///
     /// ```
@@ -137,6 +170,13 @@ impl Image {
 impl Default for Image {
     fn default() -> Image {
         Image::new()
+    }
+}
+
+impl JointProof {
+    /// The joint proof's bytes.
+    pub fn as_bytes(&self) -> &[u8] {
+        &self.bytes
     }
 }
 

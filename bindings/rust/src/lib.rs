@@ -1,7 +1,8 @@
 //! Quaythistle: the gateway and the store of an archive of blocks, proved for all inputs.
 //!
 //! The store keeps an [`Image`] and proves what stands at a position; the gateway keeps only [`Metadata`], a count and a root label, and
-//! from a proof it works out the metadata after a [`Command`]. A store that lies is refused, by number: see [`Refusal`].
+//! from a proof it works out the metadata after a [`Command`]. Up to 32 positions are read with one [`JointProof`]. A store that lies is
+//! refused, by number: see [`Refusal`].
 //!
 //! ```
 //! # fn main() -> Result<(), quaythistle::Refusal> {
@@ -31,6 +32,6 @@ pub mod store;
 
 pub use command::Command;
 pub use digest::{digest, digest_joined, height, matches, tag, Digest, Label, Tag};
-pub use image::{Image, Proof};
+pub use image::{Image, JointProof, Proof};
 pub use metadata::{Accepted, Metadata};
 pub use refusal::{Refusal, Which};

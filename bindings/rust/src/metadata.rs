@@ -1,4 +1,4 @@
-//! The gateway: metadata, saved and loaded, and the check of a command.
+//! The gateway: metadata, saved and loaded, and the checks of a command and of a joint proof.
 
 use crate::raw;
 use crate::{Command, Label, Refusal, Tag};
@@ -87,6 +87,43 @@ impl Metadata {
             tag: answer.tag.bytes,
             metadata: Metadata::shown(answer.metadata),
         })
+    }
+
+    /// The gateway's check of a joint proof of these positions: the tags at them, in their order. It is accepted exactly when it has the
+    /// stated form and Read of each position accepts its proof, spelled out. Refuses with 12, 13, 2, then 7 with place 0 for the joint
+    /// proof's form, then 7, 8, 9 of the first proof with place 1, the same of the second with place 2, and so on, in this order.
+    ///
+    /// ```
+    /// # fn main() -> Result<(), quaythistle::Refusal> {
+    /// use quaythistle::{Command, Image, Refusal, Which};
+    /// let mut image = Image::new();
+    /// for (position, height) in [(0, 1), (1, 0), (2, 3)] {
+    ///     image.apply(&Command::Insert { position, height, tag: [position as u8; 32] })?;
+    /// }
+    /// let held = image.metadata();
+    /// let mut proof = image.prove_joint(&[1, 3])?.as_bytes().to_vec();
+    /// assert_eq!(held.check_joint(&[1, 3], &proof), Ok(vec![[0; 32], [2; 32]]));
+    /// assert_eq!(held.check_joint(&[1, 2], &proof), Err(Refusal::WrongPosition(Which::Place(2))));
+    /// assert_eq!(held.check_joint(&[3, 1], &proof), Err(Refusal::BadSet));
+    /// proof.pop();
+    /// assert_eq!(held.check_joint(&[1, 3], &proof), Err(Refusal::BadProof(Which::Place(0))));
+    /// # Ok(())
+    /// # }
+    /// ```
+    pub fn check_joint(&self, positions: &[u64], proof: &[u8]) -> Result<Vec<Tag>, Refusal> {
+        // SAFETY: each pointer and length are those of a slice, and a slice that is written is lent alone.
+        let answer = unsafe {
+            raw::qt_jointgateway_check(
+                self.plain(),
+                positions.as_ptr(),
+                positions.len(),
+                proof.as_ptr(),
+                proof.len(),
+            )
+        };
+        let tags = &answer.tags[..answer.number as usize];
+        let tags = tags.iter().map(|tag| tag.bytes).collect();
+        answer.verdict.settled_at_place(tags)
     }
 
     fn plain(&self) -> raw::Metadata {

@@ -1,6 +1,6 @@
 //! The C interface (`include/quaythistle.h`), as it is.
 
-use crate::Refusal;
+use crate::{Refusal, Which};
 
 #[repr(C)]
 #[derive(Clone, Copy)]
@@ -75,6 +75,14 @@ pub struct Answer {
     pub metadata: Metadata,
 }
 
+#[repr(C)]
+pub struct JointAnswer {
+    pub verdict: Verdict,
+    pub number: u64,
+    pub tags: [Digest; 32],
+    pub metadata: Metadata,
+}
+
 extern "C" {
     pub fn qt_sha256_digest(message: *const u8, length: usize) -> Digested;
     pub fn qt_sha256_digest_joined(
@@ -113,12 +121,41 @@ extern "C" {
         second: *const u8,
         second_length: usize,
     ) -> Answer;
+    pub fn qt_jointstore_prove(
+        image: *const u8,
+        length: usize,
+        positions: *const u64,
+        number: usize,
+        buffer: *mut u8,
+        room: usize,
+        place: u64,
+    ) -> Proved;
+    pub fn qt_jointgateway_check(
+        metadata: Metadata,
+        positions: *const u64,
+        number: usize,
+        proof: *const u8,
+        length: usize,
+    ) -> JointAnswer;
 }
 
 impl Verdict {
-    /// What the call answers where it is done, else the refusal.
+    /// What the call answers where it is done, else the refusal, with the proof of a command that it speaks of.
     pub fn settled<T>(self, answer: T) -> Result<T, Refusal> {
-        match Refusal::numbered(self.refusal, self.proof) {
+        let which = match self.proof {
+            2 => Which::Second,
+            _ => Which::First,
+        };
+        self.settled_of(which, answer)
+    }
+
+    /// The same of a joint proof: the refusal speaks of a place.
+    pub fn settled_at_place<T>(self, answer: T) -> Result<T, Refusal> {
+        self.settled_of(Which::Place(self.proof as u8), answer)
+    }
+
+    fn settled_of<T>(self, which: Which, answer: T) -> Result<T, Refusal> {
+        match Refusal::numbered(self.refusal, which) {
             None => Ok(answer),
             Some(refusal) => Err(refusal),
         }
@@ -144,20 +181,24 @@ mod tests {
         assert_eq!(size_of::<Counted>(), 16);
         assert_eq!(size_of::<Saved>(), 48);
         assert_eq!(size_of::<Answer>(), 80);
+        assert_eq!(size_of::<JointAnswer>(), 1080);
     }
 
     #[test]
     fn verdicts_are_settled() {
         let verdict = |refusal, proof| Verdict { refusal, proof };
         assert_eq!(verdict(0, 0).settled(7), Ok(7));
-        for number in 1..=12 {
-            for proof in [1, 2] {
+        assert_eq!(verdict(0, 0).settled_at_place(7), Ok(7));
+        for number in 1..=13 {
+            let speaks = |which| Some(which).filter(|_| (7..=9).contains(&number));
+            for (proof, which) in [(1, Which::First), (2, Which::Second)] {
                 let refusal = verdict(number, proof).settled(7).unwrap_err();
-                assert_eq!(refusal.number(), number);
-                assert!(refusal
-                    .proof()
-                    .map_or(true, |which| which as u32 + 1 == proof));
-                assert_eq!(refusal.proof().is_some(), (7..=9).contains(&number));
+                assert_eq!((refusal.number(), refusal.proof()), (number, speaks(which)));
+            }
+            for place in 0..=32 {
+                let refusal = verdict(number, place).settled_at_place(7).unwrap_err();
+                let which = Which::Place(place as u8);
+                assert_eq!((refusal.number(), refusal.proof()), (number, speaks(which)));
             }
         }
     }

@@ -3,29 +3,33 @@
 use std::error::Error;
 use std::fmt;
 
-/// Which proof of a command. Delete carries two; the others one, their `First`.
+/// Which proof of a command. Delete carries two; the others one, their `First`. Of a joint proof the `Place`: 1 to 32 the proof spelled out
+/// for the first, second, .. of the positions, 0 the joint proof's own form.
 #[derive(Clone, Copy, Debug, PartialEq, Eq, Hash)]
 pub enum Which {
     First,
     Second,
+    Place(u8),
 }
 
-/// Why a call will not, in the order of their numbers, 1 to 12. A refusal changes nothing that the call was lent.
+/// Why a call will not, in the order of their numbers, 1 to 13. A refusal changes nothing that the call was lent.
 #[derive(Clone, Copy, Debug, PartialEq, Eq, Hash)]
 pub enum Refusal {
     /// 1: buffer under 7 bytes, version not 1, length not 2 + 33n, n over 4,096, buffer shorter than the image, or a height over 15.
     BadImage,
-    /// 2: outside the command's range.
+    /// 2: outside the command's range, for a joint proof outside 1 to n.
     BadPosition,
     /// 3: Insert with height over 15.
     BadHeight,
     /// 4: Insert with n = 4,096.
     Full,
-    /// 5: proof, grown image or numbers of entries do not fit their buffer.
+    /// 5: proof, joint proof, grown image or numbers of entries do not fit their buffer.
     NoRoom,
     /// 6: path of more than 200 entries.
     TooDeep,
-    /// 7: bytes break a rule of the proof's form, or are not exactly 77 + 38k for some k from 0 to 200 with that length stated.
+    /// 7: bytes break a rule of the proof's form, or are not exactly 77 + 38k for some k from 0 to 200 with that length stated. For place 0 of
+    /// a joint proof: version not 1, length not stated, number not that of the positions asked, a kind over 2, bytes short or over, or a
+    /// shared number not the largest.
     BadProof(Which),
     /// 8: proved position is not the one wanted, or stop's own is not 1 (0 for position 0).
     WrongPosition(Which),
@@ -37,6 +41,8 @@ pub enum Refusal {
     LongMessage,
     /// 12: count over 4,096, or saved bytes not of the stated form.
     BadMetadata,
+    /// 13: positions of a joint proof: none, over 32, or one not above the one before.
+    BadSet,
 }
 
 impl Refusal {
@@ -46,7 +52,7 @@ impl Refusal {
     /// use quaythistle::{Refusal, Which};
     /// assert_eq!(Refusal::BadImage.number(), 1);
     /// assert_eq!(Refusal::BadProof(Which::Second).number(), 7);
-    /// assert_eq!(Refusal::BadMetadata.number(), 12);
+    /// assert_eq!(Refusal::BadSet.number(), 13);
     /// ```
     pub fn number(self) -> u32 {
         match self {
@@ -62,6 +68,7 @@ impl Refusal {
             Refusal::NotNeighbours => 10,
             Refusal::LongMessage => 11,
             Refusal::BadMetadata => 12,
+            Refusal::BadSet => 13,
         }
     }
 
@@ -70,6 +77,7 @@ impl Refusal {
     /// ```
     /// use quaythistle::{Refusal, Which};
     /// assert_eq!(Refusal::WrongLabel(Which::Second).proof(), Some(Which::Second));
+    /// assert_eq!(Refusal::WrongLabel(Which::Place(5)).proof(), Some(Which::Place(5)));
     /// assert_eq!(Refusal::NotNeighbours.proof(), None);
     /// ```
     pub fn proof(self) -> Option<Which> {
@@ -102,16 +110,12 @@ impl Refusal {
             Refusal::NotNeighbours => "NOT NEIGHBOURS",
             Refusal::LongMessage => "LONG MESSAGE",
             Refusal::BadMetadata => "BAD METADATA",
+            Refusal::BadSet => "BAD SET",
         }
     }
 
     /// The refusal of a number and a proof, none for 0.
-    pub(crate) fn numbered(number: u32, proof: u32) -> Option<Refusal> {
-        let which = if proof == 2 {
-            Which::Second
-        } else {
-            Which::First
-        };
+    pub(crate) fn numbered(number: u32, which: Which) -> Option<Refusal> {
         match number {
             0 => None,
             1 => Some(Refusal::BadImage),
@@ -126,6 +130,7 @@ impl Refusal {
             10 => Some(Refusal::NotNeighbours),
             11 => Some(Refusal::LongMessage),
             12 => Some(Refusal::BadMetadata),
+            13 => Some(Refusal::BadSet),
             _ => unreachable!("no call refuses with {number}"),
         }
     }
@@ -137,6 +142,7 @@ impl Refusal {
 /// use quaythistle::{Refusal, Which};
 /// assert_eq!(Refusal::BadImage.to_string(), "BAD IMAGE");
 /// assert_eq!(Refusal::WrongLabel(Which::First).to_string(), "WRONG LABEL (first proof)");
+/// assert_eq!(Refusal::WrongLabel(Which::Place(5)).to_string(), "WRONG LABEL (place 5)");
 /// ```
 impl fmt::Display for Refusal {
     fn fmt(&self, f: &mut fmt::Formatter<'_>) -> fmt::Result {
@@ -144,6 +150,7 @@ impl fmt::Display for Refusal {
         match self.proof() {
             Some(Which::First) => f.write_str(" (first proof)"),
             Some(Which::Second) => f.write_str(" (second proof)"),
+            Some(Which::Place(place)) => write!(f, " (place {place})"),
             None => Ok(()),
         }
     }

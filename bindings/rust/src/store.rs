@@ -56,6 +56,44 @@ pub fn prove(
     })
 }
 
+/// Proves a set of positions, each 1 to n and above the one before, at most 32 of them, by one joint proof, and answers its length in bytes.
+/// It begins at the given place in the buffer; other bytes stay. Refuses with 1, 13, 2, 6, 5, in this order.
+///
+/// ```
+/// # fn main() -> Result<(), quaythistle::Refusal> {
+/// use quaythistle::{store, Command, Image, Refusal};
+/// let mut image = Image::new();
+/// for position in 0..3 {
+///     image.apply(&Command::Insert { position, height: 0, tag: [7; 32] })?;
+/// }
+/// let mut buffer = [0; 272];
+/// assert_eq!(store::prove_joint(image.as_bytes(), &[1, 3], &mut buffer, 2), Ok(270));
+/// assert_eq!(store::prove_joint(image.as_bytes(), &[1, 3], &mut buffer, 3), Err(Refusal::NoRoom));
+/// assert_eq!(store::prove_joint(image.as_bytes(), &[3, 1], &mut buffer, 0), Err(Refusal::BadSet));
+/// # Ok(())
+/// # }
+/// ```
+pub fn prove_joint(
+    image: &[u8],
+    positions: &[u64],
+    buffer: &mut [u8],
+    place: usize,
+) -> Result<usize, Refusal> {
+    // SAFETY: each pointer and length are those of a slice, and a slice that is written is lent alone.
+    let answer = unsafe {
+        raw::qt_jointstore_prove(
+            image.as_ptr(),
+            image.len(),
+            positions.as_ptr(),
+            positions.len(),
+            buffer.as_mut_ptr(),
+            buffer.len(),
+            place as u64,
+        )
+    };
+    answer.verdict.settled(answer.length as usize)
+}
+
 /// Applies a command to the image in its buffer, and answers the new count. Refuses with 1, 2, 3, 4, 5, in this order.
 ///
 /// ```

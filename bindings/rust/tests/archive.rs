@@ -176,6 +176,118 @@ fn the_gateway_refuses() {
     assert_eq!(over.check(&read, proof(3), b""), Err(Refusal::BadMetadata));
 }
 
+/// The positions that the bits of a number name.
+fn set_of(bits: u32) -> Vec<u64> {
+    (1..=5).filter(|p| bits >> (p - 1) & 1 == 1).collect()
+}
+
+/// The entries of a proof, each of 38 bytes, and its stop.
+fn records(proof: &[u8]) -> (Vec<&[u8]>, &[u8]) {
+    let stop = proof.len() - 74;
+    (proof[3..stop].chunks(38).collect(), &proof[stop..])
+}
+
+/// The joint proof put together from the single ones.
+fn put_together(image: &Image, positions: &[u64]) -> Vec<u8> {
+    let proofs: Vec<_> = positions.iter().map(|&p| image.prove(p).unwrap()).collect();
+    let mut body = vec![positions.len() as u8];
+    let mut before: Vec<&[u8]> = Vec::new();
+    for (place, proof) in proofs.iter().enumerate() {
+        let (entries, stop) = records(proof.as_bytes());
+        let same = before.iter().zip(&entries).take_while(|(a, b)| a == b);
+        let shared = same.count();
+        if place > 0 {
+            body.extend((shared as u16).to_be_bytes());
+        }
+        body.extend(entries[shared..].concat());
+        body.extend(stop);
+        before = entries;
+    }
+    let length = (body.len() as u32).to_be_bytes();
+    [&[1][..], &length, &body].concat()
+}
+
+#[test]
+fn every_set_of_positions_is_proved_and_read() {
+    let image = five();
+    for positions in (1..32).map(set_of) {
+        let proof = image.prove_joint(&positions).unwrap();
+        assert_eq!(proof.as_bytes(), put_together(&image, &positions));
+        let tags = positions.iter().map(|&p| letter(p)).collect();
+        let answer = image.metadata().check_joint(&positions, proof.as_bytes());
+        assert_eq!(answer, Ok(tags));
+    }
+    let flat = row(&[0; 200]);
+    let last: Vec<_> = (169..=200).collect();
+    let proof = flat.prove_joint(&last).unwrap();
+    assert_eq!(proof.as_bytes().len(), 6 + 74 * 32 + 2 * 31 + 38 * 200);
+    let answer = flat.metadata().check_joint(&last, proof.as_bytes());
+    assert_eq!(answer, Ok(vec![[0; 32]; 32]));
+}
+
+#[test]
+fn sets_are_refused() {
+    let (image, many) = (five(), (1..=33).collect::<Vec<_>>());
+    let sets: [(&[u64], Refusal); 7] = [
+        (&[], Refusal::BadSet),
+        (&many, Refusal::BadSet),
+        (&[2, 2], Refusal::BadSet),
+        (&[9, 0], Refusal::BadSet),
+        (&many[..32], Refusal::BadPosition),
+        (&[0, 3], Refusal::BadPosition),
+        (&[3, u64::MAX], Refusal::BadPosition),
+    ];
+    for (positions, refusal) in sets {
+        assert_eq!(image.prove_joint(positions), Err(refusal));
+        let answer = image.metadata().check_joint(positions, b"");
+        assert_eq!(answer, Err(refusal));
+        let over = Metadata {
+            count: 4097,
+            ..image.metadata()
+        };
+        let answer = over.check_joint(positions, b"");
+        assert_eq!(answer, Err(Refusal::BadMetadata));
+        let answer = store::prove_joint(b"", positions, &mut [], 0);
+        assert_eq!(answer, Err(Refusal::BadImage));
+    }
+    let answer = row(&[0; 201]).prove_joint(&[200, 201]);
+    assert_eq!(answer, Err(Refusal::TooDeep));
+}
+
+#[test]
+fn joint_proofs_are_refused_with_their_place() {
+    let image = five();
+    let held = image.metadata();
+    let all = [1, 2, 3, 4, 5];
+    let proof = image.prove_joint(&all).unwrap();
+    let changed = |at: usize, by: u8| {
+        let mut bytes = proof.as_bytes().to_vec();
+        bytes[at] ^= by;
+        held.check_joint(&all, &bytes)
+    };
+    for at in 0..6 {
+        let form = Err(Refusal::BadProof(Which::Place(0)));
+        assert_eq!(changed(at, 1), form);
+    }
+    for place in 1..=5 {
+        let up_to = image.prove_joint(&all[..place]).unwrap();
+        let stop = up_to.as_bytes().len() - 74;
+        let which = Which::Place(place as u8);
+        let form = Err(Refusal::BadProof(Which::Place(0)));
+        assert_eq!(changed(stop, 1), form);
+        assert_eq!(changed(stop + 5, 2), Err(Refusal::BadProof(which)));
+        assert_eq!(changed(stop + 6, 1), Err(Refusal::WrongLabel(which)));
+    }
+    for place in 1..=4 {
+        let mut other = all.to_vec();
+        other.remove(place - 1);
+        let other = image.prove_joint(&other).unwrap();
+        let which = Which::Place(place as u8);
+        let answer = held.check_joint(&all[..4], other.as_bytes());
+        assert_eq!(answer, Err(Refusal::WrongPosition(which)));
+    }
+}
+
 #[test]
 fn metadata_is_saved_and_loaded() {
     let held = five().metadata();
@@ -194,6 +306,15 @@ fn lent_buffers() {
     assert_eq!(&buffer[5..234], image.prove(3).unwrap().as_bytes());
     assert!(buffer[..5].iter().chain(&buffer[234..]).all(|&b| b == 0xA5));
     let late = store::prove(image.as_bytes(), 3, &mut buffer, usize::MAX);
+    assert_eq!(late, Err(Refusal::NoRoom));
+    let joint = image.prove_joint(&[2, 4]).unwrap();
+    let end = 7 + joint.as_bytes().len();
+    let mut buffer = vec![0xA5; end + 5];
+    let length = store::prove_joint(image.as_bytes(), &[2, 4], &mut buffer, 7);
+    assert_eq!(length, Ok(end - 7));
+    assert_eq!(&buffer[7..end], joint.as_bytes());
+    assert!(buffer[..7].iter().chain(&buffer[end..]).all(|&b| b == 0xA5));
+    let late = store::prove_joint(image.as_bytes(), &[2, 4], &mut buffer, 13);
     assert_eq!(late, Err(Refusal::NoRoom));
     assert_eq!(
         store::shape(image.as_bytes(), &mut [0; 4]),

@@ -23,12 +23,16 @@ use Rattle.gateway.specs.declared.saved.Loaded.{Loaded}
 use Rattle.gateway.specs.declared.Answer.{Answer}
 use Rattle.gateway.specs.Saving as saving
 use Rattle.gateway.specs.Gateway as gateway
+use Rattle.jointstore.specs.Pledges as jointstore
+use Rattle.jointgateway.specs.declared.Answer.{Answer as JointAnswer}
+use Rattle.jointgateway.specs.Joint as jointgateway
 use Rattle.quaythistle.specs.declared.plain.QtDigest.{QtDigest}
 use Rattle.quaythistle.specs.declared.plain.QtVerdict.{QtVerdict}
 use Rattle.quaythistle.specs.declared.plain.QtMetadata.{QtMetadata}
 use Rattle.quaythistle.specs.declared.plain.QtCommand.{QtCommand}
 use Rattle.quaythistle.specs.Plain.{plainVerdict, plainDigest, heldMetadata, shownMetadata, commandOf}
 use Rattle.quaythistle.specs.Pledges.{Digests, Tags, Matches, Checks, Proves, Applies, Shapes, Saves, Loads, Answers}
+use Rattle.quaythistle.specs.Pledges.{ProvesJointly, AnswersJointly}
 
 pub as-digested
     : (m : List ℕ) (d : Digested) (v : QtVerdict) → sha256.Answers m d → v ≡ plainVerdict (d .verdict)
@@ -109,4 +113,27 @@ as-answered m k first second n j a v s held meant pledge said shown =
       verdict = said ∙ ap plainVerdict (pledge .verdict ∙ ap (λ (x : Answer). x .verdict) same);
       tag = ap plainDigest (pledge .tag ∙ ap (λ (x : Answer). x .tag) same);
       metadata = shown ∙ ap shownMetadata (pledge .metadata ∙ ap (λ (x : Answer). x .metadata) same);
+    }
+
+pub as-proved-jointly
+    : (b ps lent : List ℕ) (at : ℕ) (r : Proved) (after : List ℕ) (v : QtVerdict) → jointstore.Proves b ps lent at r after
+    → v ≡ plainVerdict (r .verdict)
+    → ProvesJointly b ps lent at (record { verdict = v; length = r .length; entries = r .entries }) after
+as-proved-jointly b ps lent at r after v pledge said =
+    record { verdict = said ∙ ap plainVerdict (pledge .verdict); bytes = pledge .bytes; entries = pledge .entries; buffer = pledge .buffer }
+
+pub as-answered-jointly
+    : (m : QtMetadata) (ps proof : List ℕ) (n : Metadata) (a : JointAnswer) (v : QtVerdict) (s : QtMetadata) → n ≡ heldMetadata m
+    → jointgateway.Checks n ps proof a
+    → v ≡ plainVerdict (a .verdict)
+    → s ≡ shownMetadata (a .metadata)
+    → AnswersJointly m ps proof (record { verdict = v; number = a .number; tags = a .tags; metadata = s })
+as-answered-jointly m ps proof n a v s held pledge said shown =
+    let same : jointgateway.jointOf n ps proof ≡ jointgateway.jointOf (heldMetadata m) ps proof =
+    λ i. jointgateway.jointOf (held i) ps proof in
+    record {
+      verdict = said ∙ ap plainVerdict (pledge .verdict ∙ ap (λ (x : JointAnswer). x .verdict) same);
+      number = pledge .number ∙ ap (λ (x : JointAnswer). x .number) same;
+      tags = pledge .tags ∙ ap (λ (x : JointAnswer). x .tags) same;
+      metadata = shown ∙ ap shownMetadata (pledge .metadata ∙ ap (λ (x : JointAnswer). x .metadata) same);
     }

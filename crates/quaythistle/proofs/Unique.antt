@@ -13,7 +13,9 @@ use Rattle.quaythistle.specs.declared.QtProved.{QtProved}
 use Rattle.quaythistle.specs.declared.QtCounted.{QtCounted}
 use Rattle.quaythistle.specs.declared.QtSaved.{QtSaved}
 use Rattle.quaythistle.specs.declared.QtAnswer.{QtAnswer}
+use Rattle.quaythistle.specs.declared.QtJointAnswer.{QtJointAnswer}
 use Rattle.quaythistle.specs.Pledges.{Digests, Tags, Matches, Draws, Checks, Proves, Applies, Shapes, Saves, Loads, Answers}
+use Rattle.quaythistle.specs.Pledges.{ProvesJointly, AnswersJointly}
 
 pub digest-unique : (m : List ℕ) (r s : QtDigested) → Digests m r → Digests m s → r ≡ s
 digest-unique m r s p q = λ i. record { verdict = (p .verdict ∙ sym (q .verdict)) i; digest = (p .digest ∙ sym (q .digest)) i }
@@ -66,5 +68,27 @@ answer-unique m k first second r s p q =
     λ i. record {
       verdict = (p .verdict ∙ sym (q .verdict)) i;
       tag = (p .tag ∙ sym (q .tag)) i;
+      metadata = (p .metadata ∙ sym (q .metadata)) i;
+    }
+
+pub prove-jointly-unique
+    : (b ps lent : List ℕ) (at : ℕ) (r s : QtProved) (x y : List ℕ) → ProvesJointly b ps lent at r x → ProvesJointly b ps lent at s y
+    → (r ≡ s) × (x ≡ y)
+prove-jointly-unique b ps lent at r s x y f g = (
+  λ i. record {
+    verdict = (f .verdict ∙ sym (g .verdict)) i;
+    length = (f .bytes ∙ sym (g .bytes)) i;
+    entries = (f .entries ∙ sym (g .entries)) i;
+  },
+  f .buffer ∙ sym (g .buffer),
+)
+
+pub answer-jointly-unique
+    : (m : QtMetadata) (ps proof : List ℕ) (r s : QtJointAnswer) → AnswersJointly m ps proof r → AnswersJointly m ps proof s → r ≡ s
+answer-jointly-unique m ps proof r s p q =
+    λ i. record {
+      verdict = (p .verdict ∙ sym (q .verdict)) i;
+      number = (p .number ∙ sym (q .number)) i;
+      tags = (p .tags ∙ sym (q .tags)) i;
       metadata = (p .metadata ∙ sym (q .metadata)) i;
     }

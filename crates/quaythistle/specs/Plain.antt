@@ -16,7 +16,7 @@ use Rattle.quaythistle.specs.declared.plain.QtVerdict.{QtVerdict}
 use Rattle.quaythistle.specs.declared.plain.QtMetadata.{QtMetadata}
 use Rattle.quaythistle.specs.declared.plain.QtCommand.{QtCommand}
 
--- "7, 8 and 9 also say which proof": 1 the first, 2 the second, 0 none
+-- "7, 8 and 9 also say which proof": 1 the first, 2 the second, 0 none; of a joint proof "with its place"
 abbrev pub verdictProof : Verdict → ℕ
 verdictProof Done = 0
 verdictProof (Refused r) = proofOf r

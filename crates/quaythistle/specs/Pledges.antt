@@ -11,6 +11,8 @@ use Rattle.store.specs.Answers.{checkOf, proveOf, bufferAfter, applyOf, imageAf
 use Rattle.shapes.specs.Shape.{shapeOf, shapeAfter}
 use Rattle.gateway.specs.Saving.{saveOf, loadOf}
 use Rattle.gateway.specs.Gateway.{gatewayOf}
+use Rattle.jointstore.specs.Answers as jointstore
+use Rattle.jointgateway.specs.Joint as jointgateway
 use Rattle.quaythistle.specs.declared.plain.QtDigest.{QtDigest}
 use Rattle.quaythistle.specs.declared.plain.QtMetadata.{QtMetadata}
 use Rattle.quaythistle.specs.declared.plain.QtCommand.{QtCommand}
@@ -21,6 +23,7 @@ use Rattle.quaythistle.specs.declared.QtProved.{QtProved}
 use Rattle.quaythistle.specs.declared.QtCounted.{QtCounted}
 use Rattle.quaythistle.specs.declared.QtSaved.{QtSaved}
 use Rattle.quaythistle.specs.declared.QtAnswer.{QtAnswer}
+use Rattle.quaythistle.specs.declared.QtJointAnswer.{QtJointAnswer}
 use Rattle.quaythistle.specs.Plain.{plainVerdict, plainDigest, heldMetadata, shownMetadata, commandOf}
 
 pub record Digests (message : List ℕ) (r : QtDigested) : Type 0 where
@@ -70,3 +73,15 @@ pub record Answers (m : QtMetadata) (k : QtCommand) (first second : List ℕ) (r
   pub verdict : r .verdict ≡ plainVerdict (gatewayOf (heldMetadata m) (commandOf k) first second .verdict)
   pub tag : r .tag ≡ plainDigest (gatewayOf (heldMetadata m) (commandOf k) first second .tag)
   pub metadata : r .metadata ≡ shownMetadata (gatewayOf (heldMetadata m) (commandOf k) first second .metadata)
+
+pub record ProvesJointly (b ps lent : List ℕ) (place : ℕ) (r : QtProved) (after : List ℕ) : Type 0 where
+  pub verdict : r .verdict ≡ plainVerdict (jointstore.jointOf b ps (length lent) place .verdict)
+  pub bytes : r .length ≡ jointstore.jointOf b ps (length lent) place .length
+  pub entries : r .entries ≡ 0
+  pub buffer : after ≡ jointstore.bufferAfter b ps lent place
+
+pub record AnswersJointly (m : QtMetadata) (ps proof : List ℕ) (r : QtJointAnswer) : Type 0 where
+  pub verdict : r .verdict ≡ plainVerdict (jointgateway.jointOf (heldMetadata m) ps proof .verdict)
+  pub number : r .number ≡ jointgateway.jointOf (heldMetadata m) ps proof .number
+  pub tags : r .tags ≡ jointgateway.jointOf (heldMetadata m) ps proof .tags
+  pub metadata : r .metadata ≡ shownMetadata (jointgateway.jointOf (heldMetadata m) ps proof .metadata)

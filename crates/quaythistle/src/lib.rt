@@ -2,6 +2,7 @@
 //! `requires`: what C passes within its own rules is answered or refused.
 ghost use mathlib.Core.List.{_++_};
 ghost use Rattle.quaythistle.specs.Pledges.{Digests, Tags, Matches, Draws, Checks, Proves, Applies, Shapes, Saves, Loads, Answers};
+ghost use Rattle.quaythistle.specs.Pledges.{ProvesJointly, AnswersJointly};
 use crate::plain::QtCommand;
 use crate::plain::QtDigest;
 use crate::plain::QtMetadata;
@@ -50,6 +51,15 @@ pub struct QtSaved {
 pub struct QtAnswer {
     pub verdict: QtVerdict,
     pub tag: QtDigest,
+    pub metadata: QtMetadata,
+}
+
+// Tags of 32 bytes each; to C they are as many digests.
+#[repr(C)]
+pub struct QtJointAnswer {
+    pub verdict: QtVerdict,
+    pub number: u64,
+    pub tags: [u8; 1024],
     pub metadata: QtMetadata,
 }
 
@@ -224,6 +234,49 @@ pub extern "C" fn qt_gateway_check(
     QtAnswer {
         verdict,
         tag,
+        metadata,
+    }
+}
+
+// The joint proof of a set of positions, from a place of the buffer on.
+#[no_mangle]
+pub extern "C" fn qt_jointstore_prove(
+    image: &[u8],
+    positions: &[u64],
+    buffer: &mut [u8],
+    place: u64,
+) -> QtProved
+    ensures { λ r. ⌜ ProvesJointly (now (image .entry)) (now (positions .entry)) (now (buffer .entry)) place r (now (buffer .exit)) ⌝ }
+{
+    let p = jointstore::prove(image, positions, buffer, place);
+    let v = p.verdict;
+    let verdict = plain::verdict(v);
+    QtProved {
+        verdict,
+        length: p.length,
+        entries: p.entries,
+    }
+}
+
+// The gateway's check of a joint proof.
+#[no_mangle]
+pub extern "C" fn qt_jointgateway_check(
+    metadata: QtMetadata,
+    positions: &[u64],
+    proof: &[u8],
+) -> QtJointAnswer
+    ensures { λ r. ⌜ AnswersJointly metadata (now (positions .entry)) (now (proof .entry)) r ⌝ }
+{
+    let a = jointgateway::check(plain::held(metadata), positions, proof);
+    let v = a.verdict;
+    let m = a.metadata;
+    let tags = a.tags;
+    let verdict = plain::verdict(v);
+    let metadata = plain::shown(m);
+    QtJointAnswer {
+        verdict,
+        number: a.number,
+        tags,
         metadata,
     }
 }

@@ -24,7 +24,7 @@ pub struct QtDigest {
 }
 
 // The refusal's number in document 01's table, 0 where the call is done, and the proof that it speaks of: 1 the first, 2 the second,
-// 0 none.
+// 0 none; of a joint proof the place.
 #[repr(C)]
 pub struct QtVerdict {
     pub refusal: u32,
