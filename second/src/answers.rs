@@ -4,7 +4,7 @@ use std::io::{self, BufReader, Read, Write};
 
 use crate::block;
 use crate::bytes;
-use crate::frames::{Answer, Request, LONGEST_FRAME, UNTOUCHED};
+use crate::frames::{Answer, CheckJoint, ProveJoint, Request, LONGEST_FRAME, UNTOUCHED};
 use crate::gateway;
 use crate::metadata::{self, Metadata};
 use crate::refusal::Refusal;
@@ -57,6 +57,8 @@ pub fn answer(request: &Request) -> Answer {
             },
         },
         Request::Tag { time, readings } => or_refused(block::tag(*time, readings), tagged),
+        Request::ProveJoint(call) => prove_joint(call),
+        Request::CheckJoint(call) => check_joint(call),
     }
 }
 
@@ -125,6 +127,28 @@ fn prove(p: u32, place: u32, length: u32, image: &[u8]) -> Answer {
         ..Answer::default()
     });
     Answer { lent, ..answer }
+}
+
+/// A joint proof has no k: its paths have one each.
+fn prove_joint(call: &ProveJoint) -> Answer {
+    let mut lent = vec![UNTOUCHED; call.length as usize];
+    let proved = store::prove_joint(&call.image, &call.positions, call.place, &mut lent);
+    let answer = or_refused(proved, |length| Answer {
+        length,
+        ..Answer::default()
+    });
+    Answer { lent, ..answer }
+}
+
+/// The tags in order, or none; the metadata given in every case.
+fn check_joint(call: &CheckJoint) -> Answer {
+    let checked = gateway::check_joint(&call.held, &call.positions, &call.joint);
+    let answer = or_refused(checked, |tags| Answer {
+        lent: tags.concat(),
+        ..Answer::default()
+    });
+    let metadata = call.held;
+    Answer { metadata, ..answer }
 }
 
 /// What stands next on the input.

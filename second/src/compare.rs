@@ -268,6 +268,8 @@ fn described(request: &Request) -> String {
             let (first, second) = (first.len(), second.len());
             format!("{name} {p}, height {height}, count {count}, proofs of {first} and {second}")
         }
+        Request::ProveJoint(call) => format!("{name} {}", call.described()),
+        Request::CheckJoint(call) => format!("{name} {}", call.described()),
     }
 }
 

@@ -12,7 +12,8 @@ pub struct Coverage {
 }
 
 /// Every outcome that can come, call by call. "done" of Match says which.
-const REQUIRED: [(&str, &str); 16] = [
+/// "7 at 0 to 32" stands for 7 at each of these places of a joint proof.
+const REQUIRED: [(&str, &str); 18] = [
     ("digest", "done, 11"),
     ("match", "done yes, done no, 11"),
     ("height", "done"),
@@ -35,10 +36,15 @@ const REQUIRED: [(&str, &str); 16] = [
         "done, 2, 7 first, 8 first, 9 first, 7 second, 8 second, 9 second, 10, 12",
     ),
     ("tag", "done, 11"),
+    ("prove joint", "done, 1, 2, 5, 6, 13"),
+    (
+        "check joint",
+        "done, 2, 7 at 0 to 32, 8 at 1 to 32, 9 at 1 to 32, 12, 13",
+    ),
 ];
 
 /// What must come up where the metadata is held by no archive.
-const REQUIRED_BY_FAMILY: [(&str, &str, &str); 5] = [
+const REQUIRED_BY_FAMILY: [(&str, &str, &str); 6] = [
     ("forged", "gateway Read", "done, 8 first, 9 first"),
     ("forged", "gateway Replace", "done, 8 first, 9 first"),
     ("forged", "gateway Insert", "done, 4, 8 first, 9 first, 12"),
@@ -48,7 +54,29 @@ const REQUIRED_BY_FAMILY: [(&str, &str, &str); 5] = [
         "done, 8 first, 9 second, 10",
     ),
     ("rules", "gateway Delete", "7 first, 7 second"),
+    (
+        "joint forged",
+        "check joint",
+        "done, 2, 8 at 1 to 32, 9 at 1 to 32, 12",
+    ),
 ];
+
+/// The outcomes that a row of these tables names, those at several places one
+/// by one.
+fn each(outcomes: &str) -> impl Iterator<Item = String> + '_ {
+    outcomes.split(", ").flat_map(each_place)
+}
+
+fn each_place(named: &str) -> Vec<String> {
+    let (number, places) = match named.split_once(" at ") {
+        Some(split) => split,
+        None => return vec![named.to_string()],
+    };
+    let place = |text: &str| text.parse::<u8>().expect("a place of a joint proof");
+    let (first, last) = places.split_once(" to ").unwrap_or((places, places));
+    let places = place(first)..=place(last);
+    places.map(|at| format!("{number} at {at}")).collect()
+}
 
 /// The outcome in words.
 pub fn outcome(request: &Request, answer: &Answer) -> String {
@@ -57,10 +85,12 @@ pub fn outcome(request: &Request, answer: &Answer) -> String {
         1 => " first",
         _ => " second",
     };
+    let place = answer.which;
     match (answer.refusal, request) {
         (0, Request::Match { .. }) if answer.yes == 1 => "done yes".to_string(),
         (0, Request::Match { .. }) => "done no".to_string(),
         (0, _) => "done".to_string(),
+        (number @ 7..=9, Request::CheckJoint(_)) => format!("{number} at {place}"),
         (number, _) => format!("{number}{which}"),
     }
 }
@@ -76,15 +106,15 @@ impl Coverage {
     pub fn missing(&self) -> Vec<String> {
         let mut missing = Vec::new();
         for (name, outcomes) in REQUIRED {
-            for outcome in outcomes.split(", ") {
-                if !self.outcomes.contains_key(&(name, outcome.to_string())) {
+            for outcome in each(outcomes) {
+                if !self.outcomes.contains_key(&(name, outcome.clone())) {
                     missing.push(format!("{name}: {outcome}"));
                 }
             }
         }
         for (family, name, outcomes) in REQUIRED_BY_FAMILY {
-            for outcome in outcomes.split(", ") {
-                let key = (family, name, outcome.to_string());
+            for outcome in each(outcomes) {
+                let key = (family, name, outcome.clone());
                 if !self.by_family.contains_key(&key) {
                     missing.push(format!("{name}, {family}: {outcome}"));
                 }
@@ -97,9 +127,7 @@ impl Coverage {
     pub fn unexpected(&self) -> Vec<String> {
         let can = |name: &str, outcome: &str| {
             let row = REQUIRED.iter().find(|(known, _)| *known == name);
-            row.map_or(false, |(_, outcomes)| {
-                outcomes.split(", ").any(|o| o == outcome)
-            })
+            row.map_or(false, |(_, outcomes)| each(outcomes).any(|o| o == outcome))
         };
         let all = self.outcomes.keys();
         all.filter(|(name, outcome)| !can(name, outcome))
@@ -112,8 +140,8 @@ impl Coverage {
         let mut lines = String::from("call            | outcomes\n");
         for (name, outcomes) in REQUIRED {
             let counted = outcomes.split(", ").map(|outcome| {
-                let key = (name, outcome.to_string());
-                let times = self.outcomes.get(&key).copied().unwrap_or(0);
+                let keys = each(outcome).map(|outcome| (name, outcome));
+                let times: u64 = keys.filter_map(|key| self.outcomes.get(&key)).sum();
                 format!("{outcome}: {times}")
             });
             let counted: Vec<String> = counted.collect();

@@ -1,5 +1,9 @@
 //! The frames of the program `answers`: requests and answers as bytes.
 
+mod joint;
+
+pub use joint::{CheckJoint, ProveJoint, LONGEST_JOINT_BUFFER};
+
 use crate::bytes;
 use crate::command::{Command, Operation, OPERATIONS};
 use crate::metadata::Metadata;
@@ -55,6 +59,8 @@ pub enum Request {
         time: u32,
         readings: Vec<u8>,
     },
+    ProveJoint(ProveJoint),
+    CheckJoint(CheckJoint),
 }
 
 /// Takes fields off the front of a frame; none where the fields are short.
@@ -135,6 +141,8 @@ impl Request {
                 time: fields.number()?,
                 readings: fields.rest(),
             }),
+            11 => ProveJoint::read(fields).map(Request::ProveJoint),
+            12 => CheckJoint::read(fields).map(Request::CheckJoint),
             _ => None,
         }
     }
@@ -200,6 +208,8 @@ impl Request {
                 [&[9][..], &fixed, &length, first, second].concat()
             }
             Request::Tag { time, readings } => [&[10][..], &time.to_be_bytes(), readings].concat(),
+            Request::ProveJoint(call) => call.write(),
+            Request::CheckJoint(call) => call.write(),
         }
     }
 
@@ -231,6 +241,8 @@ impl Request {
                 Operation::Delete => "gateway Delete",
             },
             Request::Tag { .. } => "tag",
+            Request::ProveJoint(_) => "prove joint",
+            Request::CheckJoint(_) => "check joint",
         }
     }
 }

@@ -1,6 +1,7 @@
 //! The gateway: checks the proofs and works out the new metadata from them.
 
 use crate::command::{Command, Operation};
+use crate::joint;
 use crate::metadata::{Metadata, MOST_BLOCKS};
 use crate::proof::{self, Entry, Proof};
 use crate::refusal::{Refusal, Which};
@@ -48,6 +49,27 @@ fn check_delete(held: &Metadata, p: u32, first: &[u8], second: &[u8]) -> Result<
     let tag = second.stop.tag;
     let metadata = after(delete(&first, &second, place));
     Ok(Accepted { tag, metadata })
+}
+
+/// The tags at the positions, in order; the metadata stays. Order: 12, 13, 2,
+/// the form of the joint proof with place 0, then 7, 8, 9 by place.
+pub fn check_joint(
+    held: &Metadata,
+    positions: &[u32],
+    lent: &[u8],
+) -> Result<Vec<Digest>, Refusal> {
+    if held.count > MOST_BLOCKS {
+        return Err(Refusal::BadMetadata);
+    }
+    joint::allowed(positions, held.count)?;
+    let form = Refusal::BadProof(Which::Place(0));
+    let paths = joint::read(lent, positions.len()).ok_or(form)?;
+    let places = positions.iter().zip(&paths).zip(1..);
+    let tags = places.map(|((p, path), place)| {
+        let proof = examine(held, *p, &path.spelled_out(), Which::Place(place))?;
+        Ok(proof.stop.tag)
+    });
+    tags.collect()
 }
 
 /// The metadata of a root.

@@ -1,5 +1,5 @@
 //! A second program of the calls that document 01 fixes, with document 02's
-//! ask 1, written plainly from these documents and FIPS 180-4, and a comparer
+//! asks 1 and 3, written plainly from these documents and FIPS 180-4, and a comparer
 //! that puts the same calls to another program and compares every answer byte
 //! for byte.
 
@@ -13,6 +13,7 @@ pub mod coverage;
 pub mod frames;
 pub mod gateway;
 pub mod image;
+pub mod joint;
 pub mod metadata;
 pub mod proof;
 pub mod random;

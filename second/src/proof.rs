@@ -15,7 +15,8 @@ pub const HEADER: usize = 3;
 
 const DOWN: u8 = 0;
 const RIGHT: u8 = 1;
-const STOPS: u8 = 2;
+/// The kind of a stop record.
+pub const STOPS: u8 = 2;
 
 /// An entry of a path, read by its kind and level.
 #[derive(Clone, Copy, Debug, PartialEq, Eq)]

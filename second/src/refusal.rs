@@ -1,9 +1,12 @@
 //! Document 01, "What comes back when it will not".
 
+/// The proof that 7, 8 and 9 speak of.
 #[derive(Clone, Copy, Debug, PartialEq, Eq)]
 pub enum Which {
     First,
     Second,
+    /// In a joint proof: 0 for its form, else 1 to 32.
+    Place(u8),
 }
 
 #[derive(Clone, Copy, Debug, PartialEq, Eq)]
@@ -20,10 +23,11 @@ pub enum Refusal {
     NotNeighbours,
     LongMessage,
     BadMetadata,
+    BadSet,
 }
 
 impl Refusal {
-    /// The number in document 01's table.
+    /// The number in document 01's table; 13 is document 02's.
     pub fn number(self) -> u8 {
         match self {
             Refusal::BadImage => 1,
@@ -38,15 +42,18 @@ impl Refusal {
             Refusal::NotNeighbours => 10,
             Refusal::LongMessage => 11,
             Refusal::BadMetadata => 12,
+            Refusal::BadSet => 13,
         }
     }
 
-    /// 7, 8 and 9 also say which proof: 1 the first, 2 the second, else 0.
+    /// 7, 8 and 9 also say which proof: 1 the first, 2 the second, else 0; in
+    /// a joint proof the place.
     pub fn which(self) -> u8 {
         match self {
             Refusal::BadProof(w) | Refusal::WrongPosition(w) | Refusal::WrongLabel(w) => match w {
                 Which::First => 1,
                 Which::Second => 2,
+                Which::Place(place) => place,
             },
             _ => 0,
         }

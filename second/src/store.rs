@@ -1,9 +1,10 @@
-//! The store: checks an image, proves a position, applies an edit.
+//! The store: checks an image, proves a position or several, applies an edit.
 
 use crate::command::{Command, Operation};
 use crate::image;
+use crate::joint;
 use crate::metadata::Metadata;
-use crate::proof::MOST_ENTRIES;
+use crate::proof::{Proof, MOST_ENTRIES};
 use crate::refusal::Refusal;
 use crate::tree::{self, Column};
 use crate::wrong::{wrong, Wrong};
@@ -39,14 +40,41 @@ pub fn prove(archive: &[u8], p: u32, place: u32, buffer: &mut [u8]) -> Result<Pr
     if k > MOST_ENTRIES {
         return Err(Refusal::TooDeep);
     }
-    let bytes = proof.write();
+    let (length, k) = (put(&proof.write(), place, buffer)?, k as u32);
+    Ok(Proved { length, k })
+}
+
+/// Writes the bytes at `place`, if there is room for all, and answers how many.
+fn put(bytes: &[u8], place: u32, buffer: &mut [u8]) -> Result<u32, Refusal> {
     if u64::from(place) + bytes.len() as u64 > buffer.len() as u64 {
         return Err(Refusal::NoRoom);
     }
     let place = place as usize;
-    buffer[place..place + bytes.len()].copy_from_slice(&bytes);
-    let (length, k) = (bytes.len() as u32, k as u32);
-    Ok(Proved { length, k })
+    buffer[place..place + bytes.len()].copy_from_slice(bytes);
+    Ok(bytes.len() as u32)
+}
+
+/// Writes the joint proof of the positions at `place` in the buffer and answers
+/// its length. Order: 1, 13, 2, 6, 5.
+pub fn prove_joint(
+    archive: &[u8],
+    positions: &[u32],
+    place: u32,
+    buffer: &mut [u8],
+) -> Result<u32, Refusal> {
+    let blocks = image::read(archive)?;
+    joint::allowed(positions, blocks.len() as u32)?;
+    let root = tree::root(&blocks);
+    let ways = positions.iter().map(|p| tree::way(&root, *p));
+    let proofs: Vec<Proof> = ways.collect();
+    if proofs
+        .iter()
+        .any(|proof| proof.entries.len() > MOST_ENTRIES)
+    {
+        return Err(Refusal::TooDeep);
+    }
+    let singles: Vec<Vec<u8>> = proofs.iter().map(Proof::write).collect();
+    put(&joint::write(&singles), place, buffer)
 }
 
 /// Applies a command to the image and answers the new count.

@@ -1,6 +1,8 @@
 //! Wrong programs on purpose, so that tests can see the comparer find them.
 //! Nothing here is in force unless `answers --wrong NAME` names it.
 
+mod joint;
+
 use std::sync::atomic::{AtomicBool, AtomicUsize, Ordering};
 
 use crate::block::{HEADER, LONGEST_READINGS};
@@ -66,9 +68,49 @@ pub enum Wrong {
     LongReadings,
     /// A digested message is bounded by 4,089, as readings are.
     ShortMessages,
+    /// The store writes shared numbers one less than the largest.
+    SharedOneLess,
+    /// A shared number need not be the largest.
+    LargestUnseen,
+    /// A shared number above the entries before is taken as all of them.
+    SharedClamped,
+    /// The joint proof's number is not compared with the positions.
+    NumberUnseen,
+    /// Bytes after the last stop are not looked at.
+    BytesOver,
+    /// A record of a kind over 2 is taken as an entry.
+    KindUnseen,
+    /// A later proof of more than 200 entries is bad form.
+    LongIsForm,
+    /// 13 comes after 2.
+    SetAfterPosition,
+    /// A set may have 33 positions.
+    OneTooMany,
+    /// A position may come again.
+    EqualRises,
+    /// A refused spelled-out proof is always the first.
+    PlaceOne,
+    /// Of several refused proofs the last is told.
+    LaterFirst,
+    /// A later proof's 7 comes before an earlier one's 8 or 9.
+    SevensFirst,
+    /// A proof is looked at before the form of the ones after it.
+    FormLate,
+    /// The tags come in the reverse order.
+    TagsReversed,
+    /// A refusal gives the tags of the places before.
+    TagsKept,
+    /// Of a joint proof only the first is checked.
+    NodsAtTheRest,
+    /// In a joint proof 5 comes before 6.
+    JointRoomFirst,
+    /// A joint proof without room leaves its first byte.
+    PartlyWritten,
+    /// A joint proof is answered with a k.
+    JointAnswersK,
 }
 
-pub const WRONGS: [(&str, Wrong); 27] = [
+pub const WRONGS: [(&str, Wrong); 47] = [
     ("last-tallest", Wrong::LastTallest),
     ("empty-zeros", Wrong::EmptyZeros),
     ("head-zeros", Wrong::HeadZeros),
@@ -96,6 +138,26 @@ pub const WRONGS: [(&str, Wrong); 27] = [
     ("length-of-readings", Wrong::LengthOfReadings),
     ("long-readings", Wrong::LongReadings),
     ("short-messages", Wrong::ShortMessages),
+    ("shared-one-less", Wrong::SharedOneLess),
+    ("largest-unseen", Wrong::LargestUnseen),
+    ("shared-clamped", Wrong::SharedClamped),
+    ("number-unseen", Wrong::NumberUnseen),
+    ("bytes-over", Wrong::BytesOver),
+    ("kind-unseen", Wrong::KindUnseen),
+    ("long-is-form", Wrong::LongIsForm),
+    ("set-after-position", Wrong::SetAfterPosition),
+    ("one-too-many", Wrong::OneTooMany),
+    ("equal-rises", Wrong::EqualRises),
+    ("place-one", Wrong::PlaceOne),
+    ("later-first", Wrong::LaterFirst),
+    ("sevens-first", Wrong::SevensFirst),
+    ("form-late", Wrong::FormLate),
+    ("tags-reversed", Wrong::TagsReversed),
+    ("tags-kept", Wrong::TagsKept),
+    ("nods-at-the-rest", Wrong::NodsAtTheRest),
+    ("joint-room-first", Wrong::JointRoomFirst),
+    ("partly-written", Wrong::PartlyWritten),
+    ("joint-answers-k", Wrong::JointAnswersK),
 ];
 
 /// The place in `WRONGS` of the wrong in force, from 1 on; 0 for none.
@@ -202,7 +264,8 @@ pub fn answer(request: &Request, answer: Answer) -> Answer {
         Some(Wrong::Nods) => nods(request, answer),
         Some(Wrong::RefusesAll) => refuses_all(request, answer),
         Some(Wrong::ShortMessages) => short_messages(request, answer),
-        _ => answer,
+        Some(wrong) => joint::answer(wrong, request, answer),
+        None => answer,
     }
 }
 

@@ -86,17 +86,23 @@ fn deepest_merge(deck: &mut Deck) {
     }
 }
 
-/// Places around the last one that fits, past the end and past any sum.
+/// Places in a buffer around the last one where a proof of this length fits,
+/// past the end and past any sum.
+pub fn places_around(buffer: u32, length: u32) -> impl Iterator<Item = u32> {
+    let last = buffer.saturating_sub(length);
+    let past = [buffer, buffer + 1, 1 << 16, 1 << 31, u32::MAX];
+    let wrapping = [u32::MAX - length, u32::MAX - length + 1, u32::MAX - 1];
+    let near = [0, last, last + 1, last.saturating_sub(1), last / 2];
+    near.into_iter().chain(past).chain(wrapping)
+}
+
+/// Every position of the five, at these places of buffers of many lengths.
 fn room_for_proof(deck: &mut Deck) {
     let row = five();
     for (p, length) in [(0, 153), (1, 153), (2, 191), (3, 229), (4, 191), (5, 153)] {
         let wide = [0, 1, length, length + 100, LONGEST_BUFFER];
         for buffer in wide.into_iter().chain([length - 1, length + 1]) {
-            let last = buffer.saturating_sub(length);
-            let past = [buffer, buffer + 1, 1 << 16, 1 << 31, u32::MAX];
-            let wrapping = [u32::MAX - length, u32::MAX - length + 1, u32::MAX - 1];
-            let near = [0, last, last + 1, last.saturating_sub(1), last / 2];
-            for place in near.into_iter().chain(past).chain(wrapping) {
+            for place in places_around(buffer, length) {
                 deck.put("room", row.prove(p, place, buffer));
             }
         }

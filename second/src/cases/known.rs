@@ -143,15 +143,20 @@ fn saved(deck: &mut Deck) {
     }
 }
 
-/// Every command at every position and beyond, and the rows of P5 to P9.
-fn row_of_five(deck: &mut Deck) {
+/// The row of five and the rows of P5 to P9.
+pub fn five_and_edits() -> [Archive; 5] {
     let x = digest(b"X");
     let five = five();
     let with_x = five.edited(&command(Operation::Insert, 3, 1, x));
     let without_b = five.edited(&command(Operation::Delete, 2, 0, x));
     let without_a = five.edited(&command(Operation::Delete, 1, 0, x));
     let empty = Archive::new(Vec::new());
-    for row in [five, with_x, without_b, without_a, empty] {
+    [five, with_x, without_b, without_a, empty]
+}
+
+/// Every command at every position and beyond.
+fn row_of_five(deck: &mut Deck) {
+    for row in five_and_edits() {
         every_command(&row, deck);
     }
 }

@@ -4,6 +4,7 @@ pub mod archive;
 pub mod edges;
 pub mod forged;
 pub mod images;
+pub mod joint;
 pub mod known;
 pub mod order;
 pub mod pairs;
@@ -68,17 +69,23 @@ impl<'a> Deck<'a> {
 
 /// The families. Down to the short rows they are the same for every seed and
 /// hold all that the coverage table asks for; then they are random.
-const FAMILIES: [fn(&Plan, &mut Deck); 17] = [
+const FAMILIES: [fn(&Plan, &mut Deck); 26] = [
     |_, deck| known::deal(deck),
+    |_, deck| joint::order::deal(deck),
+    |_, deck| joint::form::deal(deck),
     |_, deck| tags::deal(deck),
     |_, deck| order::deal(deck),
     |_, deck| images::every_header_byte(deck),
-    |_, deck| proofs::every_rule(deck),
-    |_, deck| forged::fixed(deck),
     |_, deck| pairs::every_kind(deck),
-    |_, deck| edges::deal(deck),
+    |_, deck| proofs::every_rule(deck),
     |_, deck| proofs::every_bit(deck),
+    |_, deck| forged::fixed(deck),
     |_, deck| known::coin_words(deck),
+    |_, deck| joint::room::deal(deck),
+    |_, deck| joint::spelled::deal(deck),
+    |_, deck| joint::forged::fixed(deck),
+    |_, deck| joint::honest::deal(deck),
+    |_, deck| edges::deal(deck),
     |plan, deck| rows::every_short_row(plan.rows, deck),
     |plan, deck| rows::random(plan.seed, plan.cases / 4, deck),
     |plan, deck| images::random(plan.seed, plan.cases / 8, deck),
@@ -86,6 +93,9 @@ const FAMILIES: [fn(&Plan, &mut Deck); 17] = [
     |plan, deck| forged::random(plan.seed, plan.cases / 4, deck),
     |plan, deck| pairs::random(plan.seed, plan.cases / 8, deck),
     |plan, deck| tags::random(plan.seed, plan.cases / 16, deck),
+    |plan, deck| joint::honest::random(plan.seed, plan.cases / 16, deck),
+    |plan, deck| joint::forged::random(plan.seed, plan.cases / 32, deck),
+    |plan, deck| joint::lies::random(plan.seed, plan.cases / 8, deck),
 ];
 
 /// Deals every call of the plan.

@@ -19,7 +19,7 @@ pub fn deal(deck: &mut Deck) {
 }
 
 /// The image with one reason for 1.
-fn broken(mut image: Vec<u8>) -> Vec<u8> {
+pub fn broken(mut image: Vec<u8>) -> Vec<u8> {
     image[0] = 2;
     image
 }

@@ -121,7 +121,7 @@ const RANKS: [u32; 13] = [
 ];
 
 /// Each field of each entry and of the stop, changed one at a time.
-fn changed_fields(honest: &RawProof) -> Vec<RawProof> {
+pub fn changed_fields(honest: &RawProof) -> Vec<RawProof> {
     let mut all = vec![honest.clone()];
     for at in 0..honest.entries.len() {
         for entry in changed_entries(honest.entries[at]) {
@@ -291,7 +291,7 @@ fn lie(row: &Archive, other: &Archive, random: &mut Random, deck: &mut Deck) -> 
 }
 
 /// The row's metadata with count or label changed.
-fn random_metadata(row: &Archive, random: &mut Random) -> Metadata {
+pub fn random_metadata(row: &Archive, random: &mut Random) -> Metadata {
     let mut held = row.metadata();
     match random.below(4) {
         0 => held.count += 1,
@@ -348,7 +348,7 @@ fn lied_about(honest: &[u8], row: &Archive, other: &Archive, random: &mut Random
 }
 
 /// The upper part of one proof and the lower part of another.
-fn spliced(upper: &[u8], lower: &[u8], random: &mut Random) -> Vec<u8> {
+pub fn spliced(upper: &[u8], lower: &[u8], random: &mut Random) -> Vec<u8> {
     let (upper, lower) = (RawProof::read(upper), RawProof::read(lower));
     let from = random.index(upper.entries.len() + 1);
     let to = random.index(lower.entries.len() + 1);

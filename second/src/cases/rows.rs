@@ -14,15 +14,16 @@ const HEIGHTS: u32 = 4;
 pub fn every_short_row(longest: u32, deck: &mut Deck) {
     for n in 0..=longest {
         for number in 0..HEIGHTS.pow(n) {
-            let row = Archive::new(short_row(n, number));
+            let row = Archive::new(short_row(n, number, HEIGHTS));
             short_row_calls(&row, number, deck);
         }
     }
 }
 
-/// The row of n blocks whose heights are the digits of `number`.
-fn short_row(n: u32, number: u32) -> Vec<Column> {
-    let height = |i: u32| (number / HEIGHTS.pow(i) % HEIGHTS) as u8;
+/// The row of n blocks whose heights, fewer than `heights`, are the digits of
+/// `number`.
+pub fn short_row(n: u32, number: u32, heights: u32) -> Vec<Column> {
+    let height = |i: u32| (number / heights.pow(i) % heights) as u8;
     let tag = |i: u32| match (number + i) % 7 {
         0 => [0; 32],
         _ => digest(&[b'A' + i as u8]),

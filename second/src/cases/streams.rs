@@ -27,7 +27,7 @@ fn with_fields(call: u8, fields: usize) -> Vec<u8> {
 }
 
 /// Every call with its fields one byte short, and with the fewest there are.
-fn fewest_fields() -> [(u8, usize); 10] {
+fn fewest_fields() -> [(u8, usize); 12] {
     [
         (1, 0),
         (2, 36),
@@ -39,6 +39,8 @@ fn fewest_fields() -> [(u8, usize); 10] {
         (8, 38),
         (9, 78),
         (10, 4),
+        (11, 9),
+        (12, 37),
     ]
 }
 
@@ -52,7 +54,7 @@ fn ends() -> Vec<(String, Vec<u8>)> {
     add("a length and nothing", vec![0, 0, 0, 9]);
     add("a frame without a call", vec![0, 0, 0, 0]);
     add("call 0", with_fields(0, 100));
-    add("call 11", with_fields(11, 100));
+    add("call 13", with_fields(13, 100));
     add("call 200", with_fields(200, 100));
     add("call 255", with_fields(255, 100));
     add("the longest length", vec![255; 400]);
@@ -67,17 +69,43 @@ fn ends() -> Vec<(String, Vec<u8>)> {
     }
     add("call 2, a tag and no time", with_fields(2, 32));
     all.extend(bad_fields());
+    all.extend(joint_fields());
+    all
+}
+
+/// A frame with these values among its fields.
+fn set(call: u8, fields: usize, at: usize, values: &[u8]) -> Vec<u8> {
+    let mut frame = with_fields(call, fields);
+    frame[5 + at..5 + at + values.len()].copy_from_slice(values);
+    frame
+}
+
+/// Joint calls: positions cut short, a buffer too long, a frame too long.
+fn joint_fields() -> Vec<(String, Vec<u8>)> {
+    let mut all: Vec<(String, Vec<u8>)> = Vec::new();
+    for (call, at, after) in [(11, 0, 8), (12, 36, 0)] {
+        for number in [1, 32, 255] {
+            let whole = at + 1 + 4 * usize::from(number) + after;
+            for fields in [whole, whole - 1, whole - 4, at + 1] {
+                let name = format!("call {call}, {number} positions in {fields} bytes");
+                all.push((name, set(call, fields, at, &[number])));
+            }
+        }
+    }
+    for length in [16_385u32, 262_144, 262_145, 1 << 31, u32::MAX] {
+        let name = format!("a joint proof buffer of {length}");
+        all.push((name, set(11, 30, 5, &length.to_be_bytes())));
+    }
+    for (call, fields) in [(11, 199_999), (12, 199_999), (11, 200_000), (12, 200_000)] {
+        let name = format!("call {call} with {fields} bytes of fields");
+        all.push((name, with_fields(call, fields)));
+    }
     all
 }
 
 /// Fields that make a frame malformed, each a step from one that does not.
 fn bad_fields() -> Vec<(String, Vec<u8>)> {
     let mut all: Vec<(String, Vec<u8>)> = Vec::new();
-    let set = |call: u8, fields: usize, at: usize, values: &[u8]| {
-        let mut frame = with_fields(call, fields);
-        frame[5 + at..5 + at + values.len()].copy_from_slice(values);
-        frame
-    };
     for (call, at) in [(8, 0), (9, 36)] {
         for operation in [3, 4, 255] {
             let name = format!("call {call}, operation {operation}");
