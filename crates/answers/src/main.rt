@@ -2,7 +2,7 @@
 // by call. docs/TESTING.md has the frames. A bad frame ends the run with a line that says so; input that ends between frames ends
 // it silently.
 ghost use mathlib.Core.Path.{_≡_};
-ghost use Prim.Native.Nat.{_+_, _≤_};
+ghost use Prim.Native.Nat.{_+_, _*_, _≤_};
 ghost use lib.ListN.{length};
 use commands::Command;
 use commands::Metadata;
@@ -12,6 +12,11 @@ use refusals::Verdict;
 const MOST_FRAME: usize = 200000;
 
 const MOST_BUFFER: usize = 16384;
+
+const MOST_JOINT_BUFFER: usize = 262144;
+
+// As many positions as one byte tells.
+const MOST_POSITIONS: usize = 255;
 
 const UNTOUCHED: u8 = 0xA5;
 
@@ -299,6 +304,93 @@ fn call_gateway(r: &[u8]) -> bool {
     true
 }
 
+// The number of positions, in one byte.
+fn how_many(r: &[u8], at: usize) -> usize
+    requires { ⌜ at + 1 ≤ length (now r) ⌝ }
+    ensures { λ m. ⌜ m ≤ 255 ⌝ }
+{
+    octets::one_at(r, at) as usize
+}
+
+// As many positions as there is room for, four bytes each, from `at` on.
+fn take_positions(ps: &mut [u64], r: &[u8], at: usize)
+    requires { ⌜ at + 4 * length (now ps) ≤ length (now r) ⌝ }
+{
+    let mut i = 0;
+    while i < ps.len() {
+        ps[i] = number(r, at + 4 * i);
+        i += 1;
+    }
+}
+
+// The first m are those of the request.
+fn positions(r: &[u8], at: usize, m: usize) -> [u64; 255]
+    requires { ⌜ (m ≤ 255) × (at + 4 * m ≤ length (now r)) ⌝ }
+{
+    let mut ps = [0u64; MOST_POSITIONS];
+    take_positions(&mut ps[0..m], r, at);
+    ps
+}
+
+// A joint proof in a buffer, and all of the buffer after it. Place, buffer length and image stand from `at` on.
+fn prove_joint_in(r: &[u8], at: usize, ps: &[u64], buffer: &mut [u8])
+    requires { ⌜ at + 8 ≤ length (now r) ⌝ }
+{
+    let p = jointstore::prove(&r[at + 8..], ps, buffer, number(r, at));
+    let v = p.verdict;
+    let mut f = blank(v);
+    f.length = p.length;
+    f.entries = p.entries;
+    send(f, buffer);
+}
+
+fn call_prove_joint(r: &[u8]) -> bool {
+    if r.len() < 2 {
+        return false;
+    }
+    let m = how_many(r, 1);
+    let at = 2 + 4 * m;
+    if r.len() < at + 8 {
+        return false;
+    }
+    let size = number(r, at + 4) as usize;
+    if MOST_JOINT_BUFFER < size {
+        return false;
+    }
+    let ps = positions(r, 2, m);
+    let mut buffer = [UNTOUCHED; MOST_JOINT_BUFFER];
+    prove_joint_in(r, at, &ps[0..m], &mut buffer[0..size]);
+    true
+}
+
+// The first tags, 32 bytes each.
+fn send_tags(f: Fields, tags: &[u8], number: u64) {
+    if ((tags.len() / 32) as u64) < number {
+        return;
+    }
+    send(f, &tags[0..32 * (number as usize)]);
+}
+
+fn call_gateway_joint(r: &[u8]) -> bool {
+    if r.len() < 38 {
+        return false;
+    }
+    let m = how_many(r, 37);
+    let at = 38 + 4 * m;
+    if r.len() < at {
+        return false;
+    }
+    let ps = positions(r, 38, m);
+    let a = jointgateway::check(metadata(r), &ps[0..m], &r[at..]);
+    let tags = a.tags;
+    let held = a.metadata;
+    let v = a.verdict;
+    let mut f = blank(v);
+    f.metadata = held;
+    send_tags(f, &tags, a.number);
+    true
+}
+
 // One call; false where the frame is bad.
 fn answered(r: &mut [u8]) -> bool {
     if r.len() < 1 {
@@ -316,6 +408,8 @@ fn answered(r: &mut [u8]) -> bool {
         8 => call_apply(r),
         9 => call_gateway(r),
         10 => call_tag(r),
+        11 => call_prove_joint(r),
+        12 => call_gateway_joint(r),
         _ => false,
     }
 }

@@ -1,5 +1,6 @@
 // A told story, all of it through the public calls: the archive of a night, a late block filed in its middle, five stores that lie,
-// and two nights with the same readings. The gateway keeps only `Metadata`; image and proofs are in the store's hands.
+// two nights with the same readings, and the morning check in one reply. The gateway keeps only `Metadata`; image and proofs are in the
+// store's hands.
 use commands::Command;
 use commands::Metadata;
 use commands::Operation;
@@ -10,6 +11,8 @@ use refusals::Verdict;
 const IMAGE: usize = 512;
 
 const PROOF: usize = 1024;
+
+const JOINT: usize = 2048;
 
 // Sample times, in seconds: the night's midnight, an hour, a day.
 const MIDNIGHT: u32 = 1_794_700_800;
@@ -50,6 +53,7 @@ fn name(r: Refusal) {
         Refusal::NotNeighbours => say(b"NOT NEIGHBOURS"),
         Refusal::LongMessage => say(b"LONG MESSAGE"),
         Refusal::BadMetadata => say(b"BAD METADATA"),
+        Refusal::BadSet => say(b"BAD SET"),
     }
 }
 
@@ -367,6 +371,127 @@ fn idle_nights() {
     shown(tag, b"the second night", MIDNIGHT + DAY);
 }
 
+// Three more blocks, on time.
+fn on_time(m: Metadata, image: &mut [u8]) -> Metadata {
+    let hour = MIDNIGHT + 5 * HOUR;
+    let mut next = filed(m, image, b"05:00", 5, 0, hour, b"level 4.51 m");
+    next = filed(
+        next,
+        image,
+        b"05:20",
+        6,
+        1,
+        hour + HOUR / 3,
+        b"level 4.53 m",
+    );
+    filed(
+        next,
+        image,
+        b"05:40",
+        7,
+        0,
+        hour + 2 * (HOUR / 3),
+        b"level 4.56 m",
+    )
+}
+
+// The bytes of the proof of one position, and of a proof for each position.
+fn single(image: &[u8], p: u64) -> u64 {
+    let mut proof = [0u8; PROOF];
+    proved(image, p, &mut proof) as u64
+}
+
+fn singles(image: &[u8], positions: &[u64]) -> u64 {
+    let mut sum = 0;
+    let mut i = 0;
+    while i < positions.len() {
+        sum = std::num::wrapping_add_u64(sum, single(image, positions[i]));
+        i += 1;
+    }
+    sum
+}
+
+// The store proves all positions at once, into the front of `proof`; the length of what it wrote.
+fn proved_jointly(image: &[u8], positions: &[u64], proof: &mut [u8]) -> usize {
+    let p = jointstore::prove(image, positions, proof, 0);
+    p.length as usize
+}
+
+// The gateway's answer to the first n bytes of a joint proof.
+fn judged_jointly(m: Metadata, positions: &[u64], proof: &[u8], n: usize) -> jointgateway::Answer {
+    if proof.len() < n {
+        return jointgateway::check(m, positions, b"");
+    }
+    jointgateway::check(m, positions, &proof[0..n])
+}
+
+// Is the third tag that of the late block?
+fn late_is_third(tags: [u8; 1024]) -> bool {
+    let third = octets::bytes32(&tags, 64);
+    octets::same32(third, tag_of(MIDNIGHT + 2 * HOUR, b"level 4.22 m"))
+}
+
+fn reads_all(m: Metadata, positions: &[u64], proof: &[u8], n: usize) {
+    let a = judged_jointly(m, positions, proof, n);
+    let v = a.verdict;
+    let tags = a.tags;
+    say(b"  The gateway checks the joint proof:\n");
+    say_verdict(v);
+    say(b", ");
+    io::print_decimal(1, a.number);
+    say(b" tags");
+    if late_is_third(tags) {
+        say(b", the third that of the late block");
+    }
+    say(b"\n");
+}
+
+// The place of the proof that a joint proof is refused for.
+fn say_place(v: Verdict) {
+    match v {
+        Verdict::Done => say(b""),
+        Verdict::Refused(r) => {
+            say(b" at place ");
+            io::print_decimal(1, refusals::proof(r) as u64);
+        }
+    }
+}
+
+// One bit of the tag at the last of the first five positions, which the joint proof of those five ends with.
+fn changes_a_byte(m: Metadata, image: &[u8], positions: [u64; 8], honest: [u8; 2048], n: usize) {
+    let mut proof = honest;
+    let end = proved_jointly(image, &positions[0..5], &mut proof);
+    if end < 74 {
+        return;
+    }
+    proof = honest;
+    flip(&mut proof, end - 60);
+    let a = judged_jointly(m, &positions, &proof, n);
+    let v = a.verdict;
+    say(b"  The store changes one byte of it, in the tag at position 5:\n");
+    say_verdict(v);
+    say_place(v);
+    say(b": the four before it are good, and no tag is reported.\n");
+}
+
+// The morning check: all eight positions in one reply.
+fn morning(m: Metadata, image: &mut [u8]) {
+    say(
+        b"\nThe morning check. Three more blocks come in on time, and at six the gateway reads all eight positions.\n",
+    );
+    let held = on_time(m, image);
+    let positions = [1, 2, 3, 4, 5, 6, 7, 8];
+    let mut proof = [0u8; JOINT];
+    let n = proved_jointly(image, &positions, &mut proof);
+    say(b"  a proof for each position: ");
+    io::print_decimal(1, singles(image, &positions));
+    say(b" bytes; one joint proof: ");
+    io::print_decimal(1, n as u64);
+    say(b" bytes\n");
+    reads_all(held, &positions, &proof, n);
+    changes_a_byte(held, image, positions, proof, n);
+}
+
 fn main() {
     let mut image = empty_archive();
     let before_late = night(&mut image);
@@ -382,4 +507,5 @@ fn main() {
     say_metadata(m);
     say(b"\n");
     idle_nights();
+    morning(m, &mut image);
 }
