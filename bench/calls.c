@@ -1,6 +1,9 @@
 // calls CALL IMAGE POSITION HEIGHT ENTRIES HOW TURNS: one call of the proved library on an archive image in a file. The proofs that the
 // gateway's calls take are made before the turns begin, and every answer is looked at once: a refusal, a proof that has not ENTRIES
 // entries, or metadata other than that of the edited image, ends the program with status 3.
+// Of a set of 32 positions POSITION is the first, HEIGHT the step to the next, and ENTRIES "LENGTH/SUM": the bytes of its joint proof and
+// of its single proofs. HOW "write" makes these proofs, has the gateway read both, and keeps them in the file IMAGE.proofs; the gateway's
+// turns take them from there, so that a counter does not see them made.
 #include "../include/quaythistle.h"
 #include "measure.h"
 enum { COPIES = 4, TIME = 1700000000 };
@@ -12,6 +15,8 @@ static size_t size, first_size, second_size;
 static qt_metadata held;
 static qt_command command;
 static int copy;
+static uint64_t set[QT_MOST_POSITIONS], joint_size, sum;
+static uint8_t joint[QT_LONGEST_JOINT], single[QT_MOST_POSITIONS][QT_LONGEST_PROOF];
 
 // One turn for each export.
 static void nothing(void *a) { kept = 0, (void)a; }
@@ -29,9 +34,34 @@ static void shapes(void *a) { kept = qt_shapes_shape(images[0], size, shape, QT_
 // An edit finds the image as it was: each turn has a copy of its own.
 static void apply(void *a) { kept = qt_store_apply(images[copy++ % COPIES], sizeof images[0], command).verdict.refusal, (void)a; }
 
+// A set in one call, and position by position.
+static void prove_jointly(void *a) {
+    qt_proved p = qt_jointstore_prove(images[0], size, set, QT_MOST_POSITIONS, joint, sizeof joint, 0);
+    kept = p.verdict.refusal || p.length != joint_size, (void)a;
+}
+static void prove_singly(void *a) {
+    uint64_t length = 0;
+    for (int i = 0; i < QT_MOST_POSITIONS; i++) length += qt_store_prove(images[0], size, set[i], single[i], sizeof *single, 0).length;
+    kept = length != sum, (void)a;
+}
+static void check_jointly(void *a) {
+    kept = qt_jointgateway_check(held, set, QT_MOST_POSITIONS, joint, joint_size).verdict.refusal, (void)a;
+}
+static size_t length_of(const uint8_t *proof) { return 3 + 256 * proof[1] + proof[2]; }
+static void check_singly(void *a) {
+    uint32_t refused = 0;
+    for (int i = 0; i < QT_MOST_POSITIONS; i++) {
+        command.position = set[i];
+        refused |= qt_gateway_check(held, command, single[i], length_of(single[i]), 0, 0).verdict.refusal;
+    }
+    kept = refused, (void)a;
+}
+
 static const struct { const char *name; void (*turn)(void *); int operation; } calls[] = {
     {"nothing", nothing, 0}, {"digest", digest, 0}, {"joined", joined, 0}, {"tag", tag, 0}, {"matches", matches, 0},
     {"height", height, 0}, {"check", check, 0}, {"prove", prove, 0}, {"shape", shapes, 0}, {"save", save, 0}, {"load", load, 0},
+    {"prove-jointly", prove_jointly, 0}, {"prove-singly", prove_singly, 0},
+    {"check-jointly", check_jointly, QT_READ}, {"check-singly", check_singly, QT_READ},
     {"read", gate, QT_READ}, {"replace", gate, QT_REPLACE}, {"insert", gate, QT_INSERT}, {"delete", gate, QT_DELETE},
     {"apply-read", apply, QT_READ}, {"apply-replace", apply, QT_REPLACE}, {"apply-insert", apply, QT_INSERT}, {"apply-delete", apply, QT_DELETE}};
 
@@ -57,6 +87,41 @@ static void ready_gateway(const char *entries) {
     expect(!memcmp(&a.metadata, &edited, sizeof edited));
 }
 
+// Both kinds of proof of the set are made and read, with the same tags, and kept.
+static void write_proofs(FILE *f) {
+    prove_jointly(0);
+    expect(!kept);
+    prove_singly(0);
+    expect(!kept);
+    qt_joint_answer all = qt_jointgateway_check(held, set, QT_MOST_POSITIONS, joint, joint_size);
+    expect(f && !all.verdict.refusal && all.number == QT_MOST_POSITIONS);
+    for (int i = 0; i < QT_MOST_POSITIONS; i++) {
+        command.position = set[i];
+        qt_answer one = qt_gateway_check(held, command, single[i], length_of(single[i]), 0, 0);
+        expect(!one.verdict.refusal && !memcmp(&one.tag, &all.tags[i], sizeof one.tag));
+    }
+    expect(fwrite(&held, sizeof held, 1, f) && fwrite(joint, sizeof joint, 1, f) && fwrite(single, sizeof single, 1, f) && !fclose(f));
+}
+
+static bool of_set(void (*turn)(void *)) {
+    return turn == prove_jointly || turn == prove_singly || turn == check_jointly || turn == check_singly;
+}
+
+static void ready_set(const char *image, const char *bytes, const char *how, void (*turn)(void *)) {
+    char *next, path[4096];
+    for (uint64_t i = 0; i < QT_MOST_POSITIONS; i++) set[i] = command.position + i * command.height;
+    joint_size = strtoul(bytes, &next, 10), sum = strtoul(next + 1, 0, 10);
+    snprintf(path, sizeof path, "%s.proofs", image);
+    if (!strcmp(how, "write")) {
+        held = qt_store_check(images[0], size).metadata;
+        write_proofs(fopen(path, "wb"));
+        exit(0);
+    }
+    if (turn == prove_jointly || turn == prove_singly) return;
+    FILE *f = fopen(path, "rb");
+    expect(f && fread(&held, sizeof held, 1, f) && fread(joint, sizeof joint, 1, f) && fread(single, sizeof single, 1, f));
+}
+
 int main(int n, char **v) {
     FILE *f = n == 8 ? fopen(v[2], "rb") : 0;
     if (!f || !(size = fread(images[0], 1, sizeof images[0], f))) return 2;
@@ -68,6 +133,7 @@ int main(int n, char **v) {
         command.operation = calls[i].operation;
         if (calls[i].turn == gate) ready_gateway(v[5]);
         if (calls[i].turn == prove) proof(command.position, first, atol(v[5]));
+        if (of_set(calls[i].turn)) ready_set(v[2], v[5], v[6], calls[i].turn);
         if (calls[i].turn == load) memcpy(saved, qt_gateway_save(held).bytes, sizeof saved);
         int status = measure(v[6], v[7], calls[i].turn, 0);
         return status ? status : kept ? 3 : 0;

@@ -53,6 +53,18 @@ def path(heights, p):
             c = d
 
 
+def shared(first, second):
+    """The leading entries that two paths share."""
+    return next((i for i in range(min(len(first), len(second))) if first[i] != second[i]), min(len(first), len(second)))
+
+
+def proof_bytes(heights, positions):
+    """The bytes of a joint proof, and of a proof for each position."""
+    paths = [path(heights, p)[0] for p in positions]
+    sent = sum(map(len, paths)) - sum(map(shared, paths, paths[1:]))
+    return 6 + 74 * len(paths) + 2 * (len(paths) - 1) + 38 * sent, sum(77 + 38 * len(entries) for entries in paths)
+
+
 def check(heights):
     return tree(heights)
 
@@ -76,6 +88,5 @@ def insert(k, height):
 
 def delete(first, second):
     """Both checks, then the first's stop leaf, both paths' entries below the place where they part, and the entries above it."""
-    k, l = len(first), len(second)
-    j = next((i for i in range(min(k, l)) if first[i] != second[i]), min(k, l))
+    k, l, j = len(first), len(second), shared(first, second)
     return (k + 1) + (l + 1) + 1 + (k - min(j + 1, k)) + (l - min(j + 1, l)) + j
