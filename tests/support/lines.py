@@ -100,11 +100,11 @@ def shares():
     """Demand 2's lines by what they are about."""
     lines = rests_on("SecondDemand")
     total = sum(lines.values())
-    forms = lines["octets"] + lines["archive"] + lines["proofbytes"]
+    forms = lines["octets"] + lines["archive"] + lines["proofbytes"] + lines["jointbytes"]
     calls = total - forms - lines["sha256"] - lines["skiplist"] - lines["demands"]
     return (
         "Of the %d lines, %d are SHA-256, %d the model (row, tree, way, labels, edits, meeting), %d numbers, runs of bytes and the forms of "
-        "image and proof, %d the calls' rules and answers and saved metadata, and %d the statement."
+        "image, proof and joint proof, %d the calls' rules and answers and saved metadata, and %d the statement."
         % (total, lines["sha256"], lines["skiplist"], forms, calls, lines["demands"])
     )
 
