@@ -57,7 +57,7 @@ cases (Refused r) = inr (r, refl)
 done-refused : {P : Type 0} {why : Refusal} → Done ≡ Refused why → P
 done-refused e = let z : _≡_ {A = ℕ} 0 1 = cc in absurd (omega arith)
 
-append-done : (xs ys : List Rule) → verdictOf (xs ++ ys) ≡ Done → (verdictOf xs ≡ Done) × (verdictOf ys ≡ Done)
+pub append-done : (xs ys : List Rule) → verdictOf (xs ++ ys) ≡ Done → (verdictOf xs ≡ Done) × (verdictOf ys ≡ Done)
 append-done xs ys e = go (cases (verdictOf xs))
   where
     go : (verdictOf xs ≡ Done) ⊎ ((why : Refusal) × (verdictOf xs ≡ Refused why)) → (verdictOf xs ≡ Done)

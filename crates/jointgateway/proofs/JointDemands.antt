@@ -16,7 +16,7 @@ use Rattle.octets.proofs.PartLaws.{part-middle}
 use Rattle.refusals.specs.declared.Which.{Which}
 use Rattle.refusals.specs.declared.Which.the-variants.{First, Place}
 use Rattle.refusals.specs.declared.Verdict.the-variants.{Done}
-use Rattle.refusals.specs.Order.{Rule, verdictOf, settled, NoneDue}
+use Rattle.refusals.specs.Order.{verdictOf, settled}
 use Rattle.refusals.proofs.OrderLaws.{done-none, none-done}
 use Rattle.skiplist.specs.Blocks.{zeros, shown, tagAt}
 use Rattle.skiplist.proofs.Cases.{order}
@@ -35,20 +35,10 @@ use Rattle.gateway.specs.Gateway.{gatewayOf}
 use Rattle.gateway.specs.Hashing.{oneMessages, gatewayMessages}
 use Rattle.gateway.proofs.Answers.{verdict-append}
 use Rattle.gateway.proofs.Accepts.{range-admitted}
-use Rattle.gateway.proofs.Demands.{rules-found, demand3}
+use Rattle.gateway.proofs.Demands.{append-done, rules-found, demand3}
 use Rattle.jointgateway.specs.Joint.{proofAt, openingRules, placeRules, tagsOf, noTags, jointOf}
 use Rattle.jointgateway.specs.Demand.{readAt, EveryRead, AcceptedExactly, messagesFrom, jointMessages, JointDemand3}
 use Rattle.jointgateway.specs.Demand.{MetadataStays}
-
--- WHAT IS DONE is done in each of its parts
-none-split : (xs ys : List Rule) → NoneDue (xs ++ ys) → NoneDue xs × NoneDue ys
-none-split [] ys n = (tt, n)
-none-split (x ∷ xs) ys n = let k = none-split xs ys (n .1) in ((n .0, k .0), k .1)
-
-append-done : (xs ys : List Rule) → verdictOf (xs ++ ys) ≡ Done → (verdictOf xs ≡ Done) × (verdictOf ys ≡ Done)
-append-done xs ys e =
-    let k = none-split xs ys (done-none (xs ++ ys) e) in
-    (none-done xs (k .0), none-done ys (k .1))
 
 -- which proof it is does not matter
 any-which : (v w : Which) (s : List ℕ) (p : ℕ) (m : Metadata) → verdictOf (proofRules v s p m) ≡ Done

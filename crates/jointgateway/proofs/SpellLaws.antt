@@ -6,8 +6,8 @@ use native.Mathlib.Numerals.{add-one}
 use mathlib.Core.Logic.{_⊎_, inl, inr}
 use mathlib.Core.Path.{_≡_, refl, sym, ap, ap₂, subst, _∙_}
 use mathlib.Core.List.{List, [], _∷_, _++_, append-assoc}
-use lib.ListN.{length, take, drop, length-append, take-append-drop}
-use lib.Seq.{length-take-le, take-at, drop-at}
+use lib.ListN.{length, take, drop, length-append, length-drop, take-append-drop}
+use lib.Seq.{length-take-le, take-at, drop-at, take-append-le, drop-append-le}
 use borrow.Author.Tests.{lt-leb, le-leb, lt-ltb, le-ltb}
 use Rattle.skiplist.proofs.Cases.{order}
 use Rattle.octets.proofs.RunLaws.{same-true}
@@ -102,22 +102,32 @@ unfolding part
 spelled-whole w s i z =
     sym (take-append-drop (length (proofAt s i)) w) ∙ ap (λ x. x ++ drop (length (proofAt s i)) w) (z .bytes)
 
-shuffle : (a b c d e : List ℕ) → (a ++ ((b ++ c) ++ d)) ++ e ≡ a ++ (b ++ (c ++ (d ++ e)))
-shuffle a b c d e = simp append-assoc
+part-first : (xs ys : List ℕ) (a k : ℕ) → a + k ≤ length xs → part (xs ++ ys) a k ≡ part xs a k
+unfolding part
+part-first xs ys a k l =
+    ap (take k) (drop-append-le a xs ys (omega (arith, l)))
+    ∙ take-append-le k (drop a xs) ys (omega (arith, l, length-drop a xs))
 
--- c entries of a proof that is spelled out
+-- c entries of a proof, and of one that is spelled out
+front-is : (s : List ℕ) (i c : ℕ) → Stands s i → c ≤ length (spelledEntries s i)
+    → part (proofAt s i) 3 (38 * c) ≡ joined (take c (spelledEntries s i))
+front-is s i c t l =
+    let E = spelledEntries s i in
+    let stop = part s (stopAt (pieceOf s i)) 74 in
+    let m : length (joined (take c E)) ≡ 38 * c =
+    length-joined (take c E) (long-take c E (spelled-long s i t)) ∙ ap (λ x. 38 * x) (length-take-le c E l) in
+    ap (λ x. part (headerBytes (length E) ++ (x ++ stop)) 3 (38 * c))
+    (sym (ap joined (take-append-drop c E)) ∙ joined-append (take c E) (drop c E))
+    ∙ ap (λ x. part (headerBytes (length E) ++ x) 3 (38 * c)) (append-assoc (joined (take c E)) (joined (drop c E)) stop)
+    ∙ part-middle (headerBytes (length E)) (joined (take c E)) (joined (drop c E) ++ stop) 3 (38 * c)
+    (length-header (length E)) m
+
 kept-front : (w s : List ℕ) (i c : ℕ) → Stands s i → Spelled w s i → c ≤ length (spelledEntries s i)
     → part w 3 (38 * c) ≡ joined (take c (spelledEntries s i))
 kept-front w s i c t k l =
-    let E = spelledEntries s i in
-    let stop = part s (stopAt (pieceOf s i)) 74 in
-    let n = length (proofAt s i) in
-    let f : take c E ++ drop c E ≡ E = take-append-drop c E in
-    let m : length (joined (take c E)) ≡ 38 * c =
-    length-joined (take c E) (long-take c E (spelled-long s i t)) ∙ ap (λ x. 38 * x) (length-take-le c E l) in
-    ap (λ x. part x 3 (38 * c)) (spelled-whole w s i k ∙ ap (λ x. (headerBytes (length E) ++ (x ++ stop)) ++ drop n w) (sym (ap joined f) ∙ joined-append (take c E) (drop c E)))
-    ∙ ap (λ x. part x 3 (38 * c)) (shuffle (headerBytes (length E)) (joined (take c E)) (joined (drop c E)) stop (drop n w))
-    ∙ part-middle (headerBytes (length E)) (joined (take c E)) (joined (drop c E) ++ (stop ++ drop n w)) 3 (38 * c) (length-header (length E)) m
+    ap (λ x. part x 3 (38 * c)) (spelled-whole w s i k)
+    ∙ part-first (proofAt s i) (drop (length (proofAt s i)) w) 3 (38 * c) (omega (arith, length-proof s i t, l))
+    ∙ front-is s i c t l
 
 -- a work buffer over which the i-th proof is spelled out
 spelled-over : (w s : List ℕ) (i : ℕ) (front : List (List ℕ)) (q : Piece) {v : List ℕ} → length w ≡ 7677 → Stands s i → q ≡ pieceOf s i
@@ -190,17 +200,6 @@ count-of s i t =
     omega (arith, n)
 
 -- THE SHARED ENTRIES of a proof and the one before are the same
-front-is : (s : List ℕ) (i c : ℕ) → Stands s i → c ≤ length (spelledEntries s i)
-    → part (proofAt s i) 3 (38 * c) ≡ joined (take c (spelledEntries s i))
-front-is s i c t l =
-    let E = spelledEntries s i in
-    let stop = part s (stopAt (pieceOf s i)) 74 in
-    let m : length (joined (take c E)) ≡ 38 * c =
-    length-joined (take c E) (long-take c E (spelled-long s i t)) ∙ ap (λ x. 38 * x) (length-take-le c E l) in
-    ap (λ x. part (headerBytes (length E) ++ (x ++ stop)) 3 (38 * c)) (sym (ap joined (take-append-drop c E)) ∙ joined-append (take c E) (drop c E))
-    ∙ ap (λ x. part (headerBytes (length E) ++ x) 3 (38 * c)) (append-assoc (joined (take c E)) (joined (drop c E)) stop)
-    ∙ part-middle (headerBytes (length E)) (joined (take c E)) (joined (drop c E) ++ stop) 3 (38 * c) (length-header (length E)) m
-
 entries-same : (a b : List ℕ) (n i : ℕ) → at (i + n) ≤ length a → at (i + n) ≤ length b
     → part a (at i) (38 * n) ≡ part b (at i) (38 * n) → entriesFrom a i n ≡ entriesFrom b i n
 unfolding entriesFrom
