@@ -1,5 +1,5 @@
 -- THE FORM of a joint proof; bytes that break it are refused with 7, place 0: "version, length, number, a kind over 2, bytes short or
--- over, a shared number not the largest". It speaks of the records' kinds and lengths and of nothing else in them.
+-- over, a shared number not the largest". It speaks of the records' kinds and lengths, and of which are the same.
 -- Assumes nothing.
 use Prim.Native.Nat.{ℕ, zero, suc, _+_, _-_}
 use mathlib.Core.Bool.{Bool, _&&_}
