@@ -1,5 +1,7 @@
-// The words that store and gateway share: metadata, commands, and the refusals that need no image and no proof.
+// The words that store and gateway share: metadata, commands, and the refusals that need no image and no proof, or no more of them
+// than a tag.
 ghost use mathlib.Core.Path.{_≡_};
+ghost use Rattle.skiplist.specs.Commands.{repeatsAt};
 ghost use Rattle.commands.specs.Admission.{leastOf, insertsOf, insertableOf, admittedOf};
 use refusals::Refusal;
 use refusals::Verdict;
@@ -80,4 +82,14 @@ pub fn admitted(k: Command, n: u64) -> Verdict
         return insertable(k.height, n);
     }
     Verdict::Done
+}
+
+// Refusal 14 of Insert after p: is the new tag the one that stands at p? At position 0 there is none to repeat.
+pub fn repeated(p: u64, new: [u8; 32], there: [u8; 32]) -> bool
+    ensures { λ r. ⌜ r ≡ repeatsAt p new there ⌝ }
+{
+    if p < 1 {
+        return false;
+    }
+    octets::same32(new, there)
 }

@@ -7,4 +7,5 @@ pub mod SecondDemand
 pub mod ThirdDemand
 pub mod TaggedBlocks
 pub mod MorningCheck
+pub mod SentTwice
 pub mod Theorems

@@ -19,9 +19,9 @@ use Rattle.commands.specs.declared.Command.{Command}
 use Rattle.store.specs.Answers.{checkVerdict, checkOf, proveRules, proveVerdict, proveOf}
 use Rattle.store.specs.Answers.{applyRules, applyVerdict, applyOf}
 use Rattle.gateway.specs.Saving.{saveRules, saveOf, loadRules, loadOf}
-use Rattle.gateway.specs.Gateway.{secondRules, gatewayRules, gatewayOf}
+use Rattle.gateway.specs.Gateway.{laterRules, gatewayRules, gatewayOf}
 use Rattle.shapes.specs.Shape.{shapeRules, shapeOf}
-use Rattle.demands.specs.Words.{numbers, proofs, secondNumbers, gatewayNumbers, secondProofs}
+use Rattle.demands.specs.Words.{numbers, proofs, laterNumbers, gatewayNumbers, laterProofs}
 use Rattle.demands.specs.Words.{placeNumbers, jointNumbers, placesFrom}
 use Rattle.jointstore.specs.Answers as jointstore
 use Rattle.jointgateway.specs.Joint as joint
@@ -36,23 +36,23 @@ digest-rules m = go (order longest (length m))
     go (inl h) = ap (λ (x : Digested). x .verdict) (digest-refused m h) ∙ sym (rw (lt-ltb longest (length m) h))
     go (inr h) = ap (λ (x : Digested). x .verdict) (digest-done m h) ∙ sym (rw (le-ltb longest (length m) h))
 
-second-numbers : (o : Operation) (m : Metadata) (p : ℕ) (first second : List ℕ)
-    → numbers (secondRules o m p first second) ≡ secondNumbers o
-second-numbers Read m p first second = refl
-second-numbers Replace m p first second = refl
-second-numbers Insert m p first second = refl
-second-numbers Delete m p first second = refl
+later-numbers : (o : Operation) (m : Metadata) (p : ℕ) (t first second : List ℕ)
+    → numbers (laterRules o m p t first second) ≡ laterNumbers o
+later-numbers Read m p t first second = refl
+later-numbers Replace m p t first second = refl
+later-numbers Insert m p t first second = refl
+later-numbers Delete m p t first second = refl
 
-second-proofs : (o : Operation) (m : Metadata) (p : ℕ) (first second : List ℕ)
-    → proofs (secondRules o m p first second) ≡ secondProofs o
-second-proofs Read m p first second = refl
-second-proofs Replace m p first second = refl
-second-proofs Insert m p first second = refl
-second-proofs Delete m p first second = refl
+later-proofs : (o : Operation) (m : Metadata) (p : ℕ) (t first second : List ℕ)
+    → proofs (laterRules o m p t first second) ≡ laterProofs o
+later-proofs Read m p t first second = refl
+later-proofs Replace m p t first second = refl
+later-proofs Insert m p t first second = refl
+later-proofs Delete m p t first second = refl
 
 pub gateway-numbers : (m : Metadata) (k : Command) (first second : List ℕ)
     → numbers (gatewayRules m k first second) ≡ gatewayNumbers (k .operation)
-gateway-numbers m k first second = rw (second-numbers (k .operation) m (k .position) first second)
+gateway-numbers m k first second = rw (later-numbers (k .operation) m (k .position) (k .tag) first second)
 
 place-numbers : (s : List ℕ) (m : Metadata) (i : ℕ) (ps : List ℕ)
     → numbers (joint.placeRules s m i ps) ≡ placeNumbers (length ps)
@@ -86,5 +86,5 @@ all-placed = record {
   joint-prove = λ b ps room at. placed _ (jointstore.jointRules b ps room at) _ refl refl;
   joint-check = λ m ps s. placed _ (joint.jointRules m ps s) _ refl (joint-numbers m ps s);
   joint-which = λ m ps s. ap (λ ns. 0 ∷ 0 ∷ 0 ∷ 0 ∷ ns) (place-places s m 0 ps);
-  which = λ m k first second. rw (second-proofs (k .operation) m (k .position) first second);
+  which = λ m k first second. rw (later-proofs (k .operation) m (k .position) (k .tag) first second);
 }

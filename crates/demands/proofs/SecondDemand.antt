@@ -18,6 +18,7 @@ use Rattle.skiplist.proofs.WayLaws.{metadata-count}
 use Rattle.commands.specs.declared.Operation.the-variants.{Delete}
 use Rattle.commands.specs.declared.Command.{Command}
 use Rattle.commands.specs.Meaning.{heldSide, meaning}
+use Rattle.commands.proofs.RangeLaws.{first-in-row, spot-is, spot-in-row}
 use Rattle.archive.specs.Form.{imageOf}
 use Rattle.archive.specs.Writing.{spareAfter}
 use Rattle.proofbytes.specs.Layout.{proofSize}
@@ -30,7 +31,7 @@ use Rattle.store.specs.Answers.{checkOf, proveOf, bufferAfter, applyOf, imageAf
 use Rattle.store.proofs.Theorems.{check-row, prove-row, apply-row, edited-within}
 use Rattle.gateway.specs.declared.Answer.{Answer}
 use Rattle.gateway.specs.Gateway.{acceptedOf}
-use Rattle.gateway.proofs.Honest.{way-writable, way-place, honest-accepted, first-in-row, spot-is, spot-in-row}
+use Rattle.gateway.proofs.Honest.{way-writable, way-place, honest-accepted}
 use Rattle.demands.proofs.Placed.{all-placed}
 use Rattle.demands.specs.ThirdDemand.{held}
 use Rattle.demands.specs.SecondDemand.{entryCount, theProof, Room, Proven, sent, gatewayAnswers, Serves}
@@ -108,13 +109,13 @@ serves bs spare k lent at lent′ at′ s other is = record {
 
     answer : gatewayAnswers bs spare k lent at lent′ at′ other ≡ acceptedOf (tagAt (spot (meaning k)) bs) (held after)
     answer = honest-accepted (checkOf image .metadata) k
-        (sent bs spare k lent at lent′ at′ (firstAt (meaning k)) lent at) other bs (s .limits) (s .range)
+        (sent bs spare k lent at lent′ at′ (firstAt (meaning k)) lent at) other bs (s .limits) (s .range) (s .anew)
         (ap (λ (x : Checked). heldSide (x .metadata)) checked) (first .proof) (s .first .few)
         (λ q. (is q ∙ second q .proof, s .second q .few))
 
     applied : (applyOf image k .verdict ≡ Done) × (applyOf image k .count ≡ length after)
         × (imageAfter image k ≡ imageOf after ++ spare-after)
-    applied = apply-row bs (s .limits) spare k (applyOf image k) (imageAfter image k) (s .range) (s .tag) (s .image)
+    applied = apply-row bs (s .limits) spare k (applyOf image k) (imageAfter image k) (s .range) (s .tag) (s .anew) (s .image)
         (record { verdict = refl; count = refl; image = refl })
 
     within : WithinLimits after

@@ -10,6 +10,8 @@ pub use Rattle.demands.proofs.ThirdDemand.{third-demand}
 pub use Rattle.demands.proofs.TaggedBlocks.{tagged-blocks}
 -- Ask 3: the joint proof, its spelling out, and what the store and the gateway make of it.
 pub use Rattle.demands.proofs.MorningCheck.{morning-check}
+-- Ask 4: a block that comes again, which store and gateway refuse alike.
+pub use Rattle.demands.proofs.SentTwice.{sent-twice}
 -- P1 to P10, with any tags.
 pub use Rattle.demands.proofs.RowOfFive.{row-of-five}
 -- Two outcomes that satisfy a pledge are equal.

@@ -9,9 +9,9 @@ use Rattle.skiplist.specs.Blocks.{Block, metadataOf, tagAt}
 use Rattle.skiplist.specs.Commands.{edited, spot}
 use Rattle.commands.specs.declared.Command.{Command}
 use Rattle.commands.specs.Meaning.{heldSide, metadataOfSide, meaning}
+use Rattle.commands.proofs.RangeLaws.{spot-is}
 use Rattle.gateway.specs.Gateway.{gatewayOf}
 use Rattle.gateway.proofs.Demands.{demand3, neighbours-meet}
-use Rattle.gateway.proofs.Honest.{spot-is}
 use Rattle.jointgateway.proofs.JointDemands.{joint-demand-3, metadata-stays}
 use Rattle.demands.specs.ThirdDemand.{held, Collision, Right, ThirdDemand}
 

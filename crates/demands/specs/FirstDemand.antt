@@ -53,7 +53,7 @@ pub record FirstDemand : Type 0 where
       → store.Proves b p lent at r after
       → Refuses (r .verdict) (1 ∷ 2 ∷ 6 ∷ 5 ∷ []) ((r .length ≡ 0) × (r .entries ≡ 0) × (after ≡ lent))
   pub apply : (b : List ℕ) (k : Command) (r : Applied) (after : List ℕ) → store.Applies b k r after
-      → Refuses (r .verdict) (1 ∷ 2 ∷ 3 ∷ 4 ∷ 5 ∷ []) ((r .count ≡ 0) × (after ≡ b))
+      → Refuses (r .verdict) (1 ∷ 2 ∷ 3 ∷ 4 ∷ 14 ∷ 5 ∷ []) ((r .count ≡ 0) × (after ≡ b))
   -- the shape of an image, into a buffer of numbers
   pub shape : (b lent : List ℕ) (r : Shaped) (after : List ℕ) → Shapes b lent r after
       → Refuses (r .verdict) (1 ∷ 5 ∷ []) ((r .blocks ≡ 0) × (after ≡ lent))

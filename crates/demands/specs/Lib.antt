@@ -5,5 +5,6 @@ pub mod SecondDemand
 pub mod ThirdDemand
 pub mod TaggedBlocks
 pub mod MorningCheck
+pub mod SentTwice
 pub mod RowOfFive
 pub mod Uniqueness

@@ -1,7 +1,7 @@
 -- DEMAND 2, its last words: "a refusal comes exactly where document 01 puts it." For each call the rules of document
 -- 01's table in the order that document 01 gives ("Order. Prove: 1, 2, 6, 5. Apply: 1, 2, 3, 4, 5. Gateway: 12, 2, 3,
--- 4, then 7, 8, 9 on the first proof, the same on the second, then 10."), and the verdict is settled by the first that
--- is due.
+-- 4, then 7, 8, 9 on the first proof, the same on the second, then 10.") and ask 4 adds to ("14 REPEATED, in the gateway after 9, in
+-- Apply after 4 and before 5"), and the verdict is settled by the first that is due.
 -- Assumes nothing.
 use Prim.Native.Nat.{ℕ}
 use mathlib.Core.Path.{_≡_}
@@ -43,7 +43,7 @@ pub record Placed : Type 0 where
   pub prove : (b : List ℕ) (p room at : ℕ)
       → Exactly (proveOf b p room at .verdict) (proveRules b p room at) (1 ∷ 2 ∷ 6 ∷ 5 ∷ [])
   pub apply : (b : List ℕ) (k : Command)
-      → Exactly (applyOf b k .verdict) (applyRules b k) (1 ∷ 2 ∷ 3 ∷ 4 ∷ 5 ∷ [])
+      → Exactly (applyOf b k .verdict) (applyRules b k) (1 ∷ 2 ∷ 3 ∷ 4 ∷ 14 ∷ 5 ∷ [])
   pub shape : (b : List ℕ) (room : ℕ) → Exactly (shapeOf b room .verdict) (shapeRules b room) (1 ∷ 5 ∷ [])
   pub gateway : (m : Metadata) (k : Command) (first second : List ℕ)
       → Exactly (gatewayOf m k first second .verdict) (gatewayRules m k first second) (gatewayNumbers (k .operation))

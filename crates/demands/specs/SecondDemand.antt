@@ -2,7 +2,8 @@
 -- within the limits, the store writes the one proof and leaves the one edited image that document 01 fixes; that proof
 -- is accepted by the gateway; a refusal comes exactly where document 01 puts it." What is served is one run of all the
 -- calls, with SHA-256: check of the image, prove of the positions that the command needs, the gateway's check of the
--- bytes written, apply, and check of the image that it leaves.
+-- bytes written, apply, and check of the image that it leaves. Ask 4: "Demand 2's honest proofs are accepted except for this", a tag
+-- that comes again.
 -- Assumes nothing.
 use Prim.Native.Nat.{ℕ, _+_, _≤_}
 use mathlib.Core.Path.{_≡_}
@@ -19,6 +20,7 @@ use Rattle.skiplist.specs.Commands.{InRange, edited, firstAt}
 use Rattle.commands.specs.declared.Operation.the-variants.{Delete}
 use Rattle.commands.specs.declared.Command.{Command}
 use Rattle.commands.specs.Meaning.{meaning}
+use Rattle.commands.specs.Again.{Again}
 use Rattle.archive.specs.Form.{imageBytes, imageOf}
 use Rattle.archive.specs.Writing.{spareAfter}
 use Rattle.proofbytes.specs.Layout.{mostEntries, proofSize}
@@ -48,12 +50,13 @@ pub record Proven (bs : List Block) (b : List ℕ) (p : ℕ) (lent : List ℕ) (
   pub buffer : bufferAfter b p lent at ≡ patch lent at (theProof bs p)
   pub proof : part (bufferAfter b p lent at) at (proveOf b p (length lent) at .length) ≡ theProof bs p
 
--- the row bs, its image with spare bytes after it in a lent buffer, a command in range with room for the edited image,
+-- the row bs, its image with spare bytes after it in a lent buffer, a command in range that is no repeat, room for the edited image,
 -- and buffers for the proofs that it needs: one, and for Delete a second
 pub record Setting (bs : List Block) (spare : List ℕ) (k : Command) (lent : List ℕ) (at : ℕ) (lent′ : List ℕ) (at′ : ℕ)
     : Type 0 where
   pub limits : WithinLimits bs
   pub range : InRange (meaning k) (length bs)
+  pub anew : Again bs k → ⊥
   pub tag : length (k .tag) ≡ digestBytes
   pub image : imageBytes (length (edited (meaning k) bs)) ≤ length (imageOf bs ++ spare)
   pub first : Room bs (firstAt (meaning k)) lent at

@@ -18,7 +18,7 @@ abbrev pub Among : ℕ → List ℕ → Type 0
 Among n [] = ⊥
 Among n (m ∷ ms) = (n ≡ m) ⊎ Among n ms
 
--- the numbers of document 01's table that rules give, in their order
+-- the numbers of documents 01 and 02 that rules give, in their order
 abbrev pub numbers : List Rule → List ℕ
 numbers rs = map (λ r. numberOf (r .refusal)) rs
 
@@ -27,25 +27,25 @@ abbrev pub proofs : List Rule → List ℕ
 proofs rs = map (λ r. proofOf (r .refusal)) rs
 
 -- "Gateway: 12, 2, 3, 4, then 7, 8, 9 on the first proof, the same on the second, then 10": the second proof is
--- Delete's
-abbrev pub secondNumbers : Operation → List ℕ
-secondNumbers Read = []
-secondNumbers Replace = []
-secondNumbers Insert = []
-secondNumbers Delete = 7 ∷ 8 ∷ 9 ∷ 10 ∷ []
+-- Delete's; ask 4's 14, of Insert, "after 9"
+abbrev pub laterNumbers : Operation → List ℕ
+laterNumbers Read = []
+laterNumbers Replace = []
+laterNumbers Insert = 14 ∷ []
+laterNumbers Delete = 7 ∷ 8 ∷ 9 ∷ 10 ∷ []
 
 abbrev pub gatewayNumbers : Operation → List ℕ
-gatewayNumbers o = 12 ∷ 2 ∷ 3 ∷ 4 ∷ 7 ∷ 8 ∷ 9 ∷ secondNumbers o
+gatewayNumbers o = 12 ∷ 2 ∷ 3 ∷ 4 ∷ 7 ∷ 8 ∷ 9 ∷ laterNumbers o
 
 -- "7, 8 and 9 also say which proof, first or second": the proof that each of them speaks of, 0 for none
-abbrev pub secondProofs : Operation → List ℕ
-secondProofs Read = []
-secondProofs Replace = []
-secondProofs Insert = []
-secondProofs Delete = 2 ∷ 2 ∷ 2 ∷ 0 ∷ []
+abbrev pub laterProofs : Operation → List ℕ
+laterProofs Read = []
+laterProofs Replace = []
+laterProofs Insert = 0 ∷ []
+laterProofs Delete = 2 ∷ 2 ∷ 2 ∷ 0 ∷ []
 
 abbrev pub gatewayProofs : Operation → List ℕ
-gatewayProofs o = 0 ∷ 0 ∷ 0 ∷ 0 ∷ 1 ∷ 1 ∷ 1 ∷ secondProofs o
+gatewayProofs o = 0 ∷ 0 ∷ 0 ∷ 0 ∷ 1 ∷ 1 ∷ 1 ∷ laterProofs o
 
 -- of a joint proof of n positions: "13 .. after 12; then 2; .. then 7 with place 0 .., then the first refusal of the spelled-out proofs,
 -- with its place"

@@ -1,6 +1,6 @@
-// A told story, all of it through the public calls: the archive of a night, a late block filed in its middle, five stores that lie,
-// two nights with the same readings, and the morning check in one reply. The gateway keeps only `Metadata`; image and proofs are in the
-// store's hands.
+// A told story, all of it through the public calls: the archive of a night, a late block filed in its middle and sent a second time,
+// five stores that lie, two nights with the same readings, and the morning check in one reply. The gateway keeps only `Metadata`; image
+// and proofs are in the store's hands.
 use commands::Command;
 use commands::Metadata;
 use commands::Operation;
@@ -54,6 +54,7 @@ fn name(r: Refusal) {
         Refusal::LongMessage => say(b"LONG MESSAGE"),
         Refusal::BadMetadata => say(b"BAD METADATA"),
         Refusal::BadSet => say(b"BAD SET"),
+        Refusal::Repeated => say(b"REPEATED"),
     }
 }
 
@@ -187,6 +188,18 @@ fn agrees(a: Metadata, b: Metadata) -> bool {
     a.count == b.count && octets::same32(x, y)
 }
 
+// What is held or found, and whether it is what it is said to be.
+fn say_agrees(seen: Metadata, wanted: Metadata, what: &[u8]) {
+    say_metadata(seen);
+    if agrees(wanted, seen) {
+        say(b", as ");
+    } else {
+        say(b", NOT as ");
+    }
+    say(what);
+    say(b"\n");
+}
+
 fn say_proof(image: &[u8], p: u64) {
     let mut proof = [0u8; PROOF];
     let x = store::prove(image, p, &mut proof, 0);
@@ -214,15 +227,39 @@ fn late(m: Metadata, image: &mut [u8]) -> Metadata {
         MIDNIGHT + 2 * HOUR,
         b"level 4.22 m",
     );
-    let seen = held(image);
     say(b"  the store's image, checked afresh: ");
-    say_metadata(seen);
-    if agrees(next, seen) {
-        say(b", as the gateway predicted\n");
-    } else {
-        say(b", NOT as the gateway predicted\n");
-    }
+    say_agrees(held(image), next, b"the gateway predicted");
     next
+}
+
+// A verdict, and what is held or found after it.
+fn say_after(v: Verdict, what: &[u8], seen: Metadata, before: Metadata) {
+    say_verdict(v);
+    say(b"\n  ");
+    say(what);
+    say_agrees(seen, before, b"before");
+}
+
+// The late block comes a second time, and neither the gateway nor the store files it after its first copy.
+fn sent_again(m: Metadata, image: &mut [u8]) {
+    say(
+        b"\nThe acknowledgement of that block was lost, and it is sent again; it belongs right after its first copy, which stands at position 3.\n",
+    );
+    let k = command(
+        Operation::Insert,
+        3,
+        0,
+        tag_of(MIDNIGHT + 2 * HOUR, b"level 4.22 m"),
+    );
+    let a = asked(m, k, image, 3);
+    let v = a.verdict;
+    let kept = a.metadata;
+    say(b"  The gateway is asked to file it after position 3:\n");
+    say_after(v, b"the gateway holds: ", kept, m);
+    let told = store::apply(image, k);
+    let w = told.verdict;
+    say(b"  The store is told to file it there all the same:\n");
+    say_after(w, b"the store's image, checked afresh: ", held(image), m);
 }
 
 // One lie: what the store does, and what the gateway says.
@@ -497,6 +534,7 @@ fn main() {
     let before_late = night(&mut image);
     let before = image;
     let m = late(before_late, &mut image);
+    sent_again(m, &mut image);
     say(b"\nStores that lie:\n");
     files_at_the_end(m, before);
     answers_for_another(m, &image);

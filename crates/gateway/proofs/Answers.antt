@@ -16,6 +16,7 @@ use Rattle.refusals.specs.declared.Refusal.the-variants.{BadMetadata}
 use Rattle.refusals.specs.declared.Verdict.{Verdict}
 use Rattle.refusals.specs.declared.Verdict.the-variants.{Done, Refused}
 use Rattle.refusals.specs.Order.{Rule, _when_, verdictOf}
+use Rattle.refusals.proofs.OrderLaws.{done-refused, verdict-append, verdict-first}
 use Rattle.skiplist.specs.Label.{Side}
 use Rattle.skiplist.specs.Equal.{side-discrete}
 use Rattle.skiplist.specs.Meeting.{meets}
@@ -38,7 +39,7 @@ use Rattle.gateway.specs.Parting.{sharedOf, partsOf, onlyFrom, remainsOf
 use Rattle.gateway.specs.Checking.{𝓢, proves, ranked, rooted, proofRules}
 use Rattle.gateway.specs.Working.{findingOf, blamed, keptOf}
 use Rattle.gateway.specs.Working.{examinedOf, Passed}
-use Rattle.gateway.specs.Gateway.{secondRules, openingRules, replacedOf, insertedOf, remainingOf, answered}
+use Rattle.gateway.specs.Gateway.{laterRules, openingRules, replacedOf, insertedOf, remainingOf, answered}
 use Rattle.gateway.specs.Gateway.{gatewayOf, acceptedOf}
 use Rattle.gateway.specs.Working.{metadataFrom, refusedOf, oneOf, afterBoth, afterFirst}
 use Rattle.gateway.specs.Working.{deletedOf, workedOf}
@@ -50,9 +51,6 @@ module _ (w : Which) (s : List ℕ) (p : ℕ) (m : Metadata) where
   by-tests : (x y z : Bool) → Verdict → Verdict
   by-tests x y z v = cond (not x) (Refused (BadProof w))
       (cond (not y) (Refused (WrongPosition w)) (cond (not z) (Refused (WrongLabel w)) v))
-
-  done-refused : {P : Type 0} {why : Refusal} → Done ≡ Refused why → P
-  done-refused e = let z : _≡_ {A = ℕ} 0 1 = cc in absurd (omega arith)
 
   pub rules-refused : {why : Refusal} (rest : List Rule) → blamed w (findingOf s p m) ≡ Refused why
       → verdictOf (proofRules w s p m ++ rest) ≡ Refused why
@@ -108,22 +106,29 @@ answered-done v tag new m e = sym (rw e)
 pub metadata-is : {t : code.Side} {r : Side} → Is t r → metadataFrom t ≡ metadataOfSide r
 metadata-is i = λ j. record { count = i .rank j; label = i .label j }
 
--- ONE PROOF
-module _ (m : Metadata) (p : ℕ) (s : List ℕ) (new : Metadata) {v : Verdict} (e : v ≡ blamed First (findingOf s p m))
-  where
-    pub one-refused : {why : Refusal} → v ≡ Refused why → refusedOf m why ≡ oneOf m p s new
+-- ONE PROOF, and the rules after it
+module _ (m : Metadata) (p : ℕ) (s : List ℕ) {v : Verdict} (e : v ≡ blamed First (findingOf s p m)) where
+  pub one-fine : v ≡ Done → findingOf s p m ≡ Fine
+  one-fine q = rules-done First s p m [] (sym e ∙ q) .1
+
+  module _ (rest : List Rule) (new : Metadata) where
+    pub one-refused : {why : Refusal} → v ≡ Refused why → refusedOf m why ≡ oneOf m p s rest new
     unfolding oneOf
     one-refused {why} q =
-        answered-refused (verdictOf (proofRules First s p m)) why (shown (placeOf s .item)) new m
-        (rules-refused First s p m [] (sym e ∙ q))
+        answered-refused (verdictOf (proofRules First s p m ++ rest)) why (shown (placeOf s .item)) new m
+        (rules-refused First s p m rest (sym e ∙ q))
 
-    pub one-fine : v ≡ Done → findingOf s p m ≡ Fine
-    one-fine q = rules-done First s p m [] (sym e ∙ q) .1
-
-    pub one-done : {tag : List ℕ} {n : Metadata} → v ≡ Done → tag ≡ shown (placeOf s .item) → n ≡ new
-        → acceptedOf tag n ≡ oneOf m p s new
+    pub one-later : {why : Refusal} → v ≡ Done → verdictOf rest ≡ Refused why → refusedOf m why ≡ oneOf m p s rest new
     unfolding oneOf
-    one-done q et en = ap₂ acceptedOf et en ∙ answered-done _ _ new m (rules-done First s p m [] (sym e ∙ q) .0)
+    one-later {why} q r =
+        answered-refused (verdictOf (proofRules First s p m ++ rest)) why (shown (placeOf s .item)) new m
+        (rules-done First s p m rest (sym e ∙ q) .0 ∙ r)
+
+    pub one-done : {tag : List ℕ} {n : Metadata} → v ≡ Done → verdictOf rest ≡ Done → tag ≡ shown (placeOf s .item)
+        → n ≡ new → acceptedOf tag n ≡ oneOf m p s rest new
+    unfolding oneOf
+    one-done q r et en =
+        ap₂ acceptedOf et en ∙ answered-done _ _ new m (rules-done First s p m rest (sym e ∙ q) .0 ∙ r)
 
 -- what Replace and Insert predict
 module _ (s : List ℕ) (m : Metadata) (small : m .count ≤ 4096) (passed : Passed s m) where
@@ -178,7 +183,7 @@ module _ (m : Metadata) (p : ℕ) (a b : List ℕ) where
     pub second-refused : {why : Refusal} → v ≡ Refused why → refusedOf m why ≡ afterFirst m p a b
     unfolding afterFirst
     second-refused {why} q =
-        answered-refused (verdictOf (secondRules Delete m p a b)) why (shown (placeOf b .item)) (remainingOf a b) m
+        answered-refused (verdictOf (laterRules Delete m p [] a b)) why (shown (placeOf b .item)) (remainingOf a b) m
         (rules-refused Second b p m ((NotNeighbours when not (meets 𝓢 side-discrete (placeOf a) (placeOf b))) ∷ [])
         (sym e ∙ q))
 
@@ -196,9 +201,9 @@ module _ (m : Metadata) (p : ℕ) (a b : List ℕ) where
     pub delete-refused : {why : Refusal} → v ≡ Refused why → refusedOf m why ≡ deletedOf m p a b
     unfolding deletedOf
     delete-refused {why} q =
-        answered-refused (verdictOf (proofRules First a (p - 1) m ++ secondRules Delete m p a b)) why
+        answered-refused (verdictOf (proofRules First a (p - 1) m ++ laterRules Delete m p [] a b)) why
         (shown (placeOf b .item)) (remainingOf a b) m
-        (rules-refused First a (p - 1) m (secondRules Delete m p a b) (sym e ∙ q))
+        (rules-refused First a (p - 1) m (laterRules Delete m p [] a b) (sym e ∙ q))
 
     pub delete-fine : v ≡ Done → findingOf a (p - 1) m ≡ Fine
     delete-fine q = rules-done First a (p - 1) m [] (sym e ∙ q) .1
@@ -207,19 +212,20 @@ module _ (m : Metadata) (p : ℕ) (a b : List ℕ) where
     unfolding afterFirst deletedOf
     delete-done q =
         sym (ap (λ z. answered z (shown (placeOf b .item)) (remainingOf a b) m)
-        (rules-done First a (p - 1) m (secondRules Delete m p a b) (sym e ∙ q) .0))
+        (rules-done First a (p - 1) m (laterRules Delete m p [] a b) (sym e ∙ q) .0))
 
 -- ANY COMMAND
 module _ (m : Metadata) (k : Command) (a b : List ℕ) where
-  pub worked-read : k .operation ≡ Read → oneOf m (k .position) a m ≡ workedOf m k a b
+  pub worked-read : k .operation ≡ Read → oneOf m (k .position) a [] m ≡ workedOf m k a b
   unfolding oneOf workedOf
   worked-read e = sym (rw e)
 
-  pub worked-replace : k .operation ≡ Replace → oneOf m (k .position) a (replacedOf (k .tag) a) ≡ workedOf m k a b
+  pub worked-replace : k .operation ≡ Replace → oneOf m (k .position) a [] (replacedOf (k .tag) a) ≡ workedOf m k a b
   unfolding oneOf workedOf
   worked-replace e = sym (rw e)
 
-  pub worked-insert : k .operation ≡ Insert → oneOf m (k .position) a (insertedOf (k .height) (k .tag) a)
+  pub worked-insert : k .operation ≡ Insert
+      → oneOf m (k .position) a (laterRules Insert m (k .position) (k .tag) a []) (insertedOf (k .height) (k .tag) a)
       ≡ workedOf m k a b
   unfolding oneOf workedOf
   worked-insert e = sym (rw e)
@@ -229,27 +235,6 @@ module _ (m : Metadata) (k : Command) (a b : List ℕ) where
   worked-delete e = sym (rw e)
 
 -- THE OPENING: 12, 2, 3, 4
-pub verdict-append : (xs ys : List Rule) → verdictOf xs ≡ Done → verdictOf (xs ++ ys) ≡ verdictOf ys
-verdict-append [] ys e = refl
-verdict-append (x ∷ xs) ys e = go (x .due) e (verdict-append xs ys)
-  where
-    go : (d : Bool) → cond d (Refused (x .refusal)) (verdictOf xs) ≡ Done
-        → (verdictOf xs ≡ Done → verdictOf (xs ++ ys) ≡ verdictOf ys)
-        → cond d (Refused (x .refusal)) (verdictOf (xs ++ ys)) ≡ verdictOf ys
-    go true f rest = let z : _≡_ {A = ℕ} 0 1 = cc in absurd (omega arith)
-    go false f rest = rest f
-
-pub verdict-first : (xs ys : List Rule) (why : Refusal) → verdictOf xs ≡ Refused why → verdictOf (xs ++ ys)
-    ≡ Refused why
-verdict-first [] ys why e = let z : _≡_ {A = ℕ} 0 1 = cc in absurd (omega arith)
-verdict-first (x ∷ xs) ys why e = go (x .due) e (verdict-first xs ys why)
-  where
-    go : (d : Bool) → cond d (Refused (x .refusal)) (verdictOf xs) ≡ Refused why
-        → (verdictOf xs ≡ Refused why → verdictOf (xs ++ ys) ≡ Refused why)
-        → cond d (Refused (x .refusal)) (verdictOf (xs ++ ys)) ≡ Refused why
-    go true f rest = f
-    go false f rest = rest f
-
 module _ (m : Metadata) (k : Command) (a b : List ℕ) where
   pub opening-worked : verdictOf (openingRules m k) ≡ Done → workedOf m k a b ≡ gatewayOf m k a b
   unfolding workedOf gatewayOf

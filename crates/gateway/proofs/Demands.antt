@@ -1,21 +1,23 @@
 -- DEMAND 3 OVER BYTES, and that 10 comes only with a clash: what is accepted over bytes meets the model's premises,
 -- so the model's theorem applies.
 -- Assumes nothing.
-use Prim.Native.Nat.{ℕ}
+use Prim.Native.Nat.{ℕ, _<_}
 use mathlib.Core.Path.{_≡_, refl, sym, ap, subst, _∙_}
 use mathlib.Core.Logic.{_⊎_, inl, inr}
-use mathlib.Core.Bool.{Bool, true, false, cond, not}
+use mathlib.Core.Bool.{true, false, not}
 use mathlib.Core.Option.{none, some}
 use mathlib.Core.List.{List, [], _∷_, _++_, append-nil}
 use native.Mathlib.Omega.{arith}
+use lib.ListN.{length}
 use borrow.Author.Tests.{not-true, not-false}
 use Rattle.refusals.specs.declared.Which.{Which}
 use Rattle.refusals.specs.declared.Which.the-variants.{First, Second}
 use Rattle.refusals.specs.declared.Refusal.{Refusal}
 use Rattle.refusals.specs.declared.Refusal.the-variants.{NotNeighbours}
-use Rattle.refusals.specs.declared.Verdict.{Verdict}
 use Rattle.refusals.specs.declared.Verdict.the-variants.{Done, Refused}
-use Rattle.refusals.specs.Order.{Rule, _when_, verdictOf}
+use Rattle.refusals.specs.Numbers.{numberOf}
+use Rattle.refusals.specs.Order.{_when_, verdictOf}
+use Rattle.refusals.proofs.OrderLaws.{done-refused, cases, due-false, due-true, append-done, Lacks, lacks-never, behind}
 use Rattle.sha256.specs.Hash.{sha256}
 use Rattle.sha256.proofs.Hashes.{sha256-length}
 use Rattle.skiplist.specs.Tree.{rank}
@@ -37,33 +39,17 @@ use Rattle.commands.specs.declared.Operation.{Operation}
 use Rattle.commands.specs.declared.Operation.the-variants.{Read, Replace, Insert, Delete}
 use Rattle.commands.specs.declared.Command.{Command}
 use Rattle.commands.specs.Meaning.{heldSide, orderOf, meaning}
+use Rattle.commands.proofs.RangeLaws.{admitted-range}
 use Rattle.proofbytes.specs.Reading.{placeOf}
 use Rattle.gateway.specs.declared.examine.Finding.the-variants.{Fine}
 use Rattle.gateway.specs.Checking.{𝓢, proofRules}
 use Rattle.gateway.specs.Working.{findingOf, blamed}
-use Rattle.gateway.specs.Gateway.{secondRules, openingRules, gatewayRules, newMetadata, gatewayOf}
+use Rattle.gateway.specs.Gateway.{laterRules, openingRules, gatewayRules, newMetadata, gatewayOf}
 use Rattle.gateway.specs.Hashing.{oneMessages, secondMessages, gatewayMessages}
 use Rattle.gateway.specs.Demand.{SomeClash, Demand3, NeighboursMeet}
 use Rattle.gateway.proofs.Screens.{Found, finding-fine}
-use Rattle.gateway.proofs.Answers.{rules-refused, rules-done, verdict-append, verdict-first, opening-count}
-use Rattle.gateway.proofs.Answers.{opening-admitted}
-use Rattle.gateway.proofs.Accepts.{found-accepted, accepted-fine, admitted-range}
-
--- WHAT A VERDICT SAYS of the rules before it
-cases : (v : Verdict) → (v ≡ Done) ⊎ ((why : Refusal) × (v ≡ Refused why))
-cases Done = inl refl
-cases (Refused r) = inr (r, refl)
-
-done-refused : {P : Type 0} {why : Refusal} → Done ≡ Refused why → P
-done-refused e = let z : _≡_ {A = ℕ} 0 1 = cc in absurd (omega arith)
-
-pub append-done : (xs ys : List Rule) → verdictOf (xs ++ ys) ≡ Done → (verdictOf xs ≡ Done) × (verdictOf ys ≡ Done)
-append-done xs ys e = go (cases (verdictOf xs))
-  where
-    go : (verdictOf xs ≡ Done) ⊎ ((why : Refusal) × (verdictOf xs ≡ Refused why)) → (verdictOf xs ≡ Done)
-        × (verdictOf ys ≡ Done)
-    go (inl d) = (d, sym (verdict-append xs ys d) ∙ e)
-    go (inr r) = done-refused (sym e ∙ verdict-first xs ys (r .0) (r .1))
+use Rattle.gateway.proofs.Answers.{rules-refused, rules-done, opening-count, opening-admitted}
+use Rattle.gateway.proofs.Accepts.{found-accepted, accepted-fine}
 
 -- a proof's rules that are done
 pub rules-found : (w : Which) (s : List ℕ) (p : ℕ) (m : Metadata) → verdictOf (proofRules w s p m) ≡ Done → Found s p m
@@ -91,8 +77,11 @@ pub record Passing (m : Metadata) (k : Command) (a b : List ℕ) : Type 0 where
 
 module _ (m : Metadata) (k : Command) (a b : List ℕ) (x : Passing m k a b) where
   pub passing-range : InRange (meaning k) (m .count)
-  passing-range = admitted-range (k .operation) (k .position) (k .height) (k .tag) (m .count)
-      (opening-count m k (x .opening)) (opening-admitted m k (x .opening))
+  passing-range = admitted-range k (m .count) (opening-count m k (x .opening)) (opening-admitted m k (x .opening))
+
+  -- of a row whose metadata is held
+  pub in-row : (bs : List Block) → heldSide m ≡ metadataOf sha256 bs → InRange (meaning k) (length bs)
+  in-row bs held = subst (InRange (meaning k)) (ap (λ (s : Side). s .rank) held ∙ metadata-count sha256 bs) passing-range
 
   pub passing-checks : model.Checks sha256 (meaning k) (heldSide m) (placeOf a) (placeOf b)
   passing-checks = go (k .operation) refl (found-accepted a (firstAt (meaning k)) m (x .first))
@@ -123,26 +112,24 @@ module _ (m : Metadata) (k : Command) (a b : List ℕ) (x : Passing m k a b) whe
       go Insert e = append-nil (proofMessages sha256 (placeOf a))
       go Delete e = ap (λ y. proofMessages sha256 (placeOf a) ++ y) (found-messages b (k .position) m (x .second e))
 
+-- what the model says of proofs against s, for the row bs
+abbrev pub Says : Side → Command → List ℕ → List ℕ → List Block → Type 0
+Says s k a b bs =
+    (predicted sha256 (meaning k) s (placeOf a) (placeOf b) ≡ some (metadataOf sha256 (edited (meaning k) bs)))
+    × (reported (meaning k) (placeOf a) (placeOf b) ≡ tagAt (spot (meaning k)) bs)
+
 -- a row within the limits whose metadata is held
 module _ (m : Metadata) (k : Command) (a b : List ℕ) (bs : List Block) (l : WithinLimits bs)
     (held : heldSide m ≡ metadataOf sha256 bs) (x : Passing m k a b) where
-  pub model-says : SomeClash m k a b bs
-      ⊎ ((predicted sha256 (meaning k) (heldSide m) (placeOf a) (placeOf b)
-      ≡ some (metadataOf sha256 (edited (meaning k) bs)))
-      × (reported (meaning k) (placeOf a) (placeOf b) ≡ tagAt (spot (meaning k)) bs))
+  pub model-says : SomeClash m k a b bs ⊎ Says (heldSide m) k a b bs
   model-says =
-      subst (λ M. Clash sha256 M (treeMessages sha256 (root bs))
-      ⊎ ((predicted sha256 (meaning k) (heldSide m) (placeOf a) (placeOf b)
-      ≡ some (metadataOf sha256 (edited (meaning k) bs)))
-      × (reported (meaning k) (placeOf a) (placeOf b) ≡ tagAt (spot (meaning k)) bs)))
+      subst (λ M. Clash sha256 M (treeMessages sha256 (root bs)) ⊎ Says (heldSide m) k a b bs)
       (sym (passing-messages m k a b x))
       (subst (λ s. Clash sha256 (checkMessages sha256 (meaning k) (placeOf a) (placeOf b))
       (treeMessages sha256 (root bs))
-      ⊎ ((predicted sha256 (meaning k) s (placeOf a) (placeOf b) ≡ some (metadataOf sha256 (edited (meaning k) bs)))
-      × (reported (meaning k) (placeOf a) (placeOf b) ≡ tagAt (spot (meaning k)) bs))) (sym held)
+      ⊎ Says s k a b bs) (sym held)
       (trusted sha256 sha256-length (meaning k) bs (placeOf a) (placeOf b) l
-      (subst (InRange (meaning k)) (ap (λ (s : Side). s .rank) held ∙ metadata-count sha256 bs)
-      (passing-range m k a b x))
+      (in-row m k a b x bs held)
       (subst (λ s. model.Checks sha256 (meaning k) s (placeOf a) (placeOf b)) held (passing-checks m k a b x))))
 
 -- the new metadata is what the model predicts
@@ -160,16 +147,12 @@ new-predicted Insert p h t m a b q = refl
 new-predicted Delete p h t m a b q = meets-gives (placeOf a) (placeOf b) (q refl)
 
 -- DEMAND 3
-due-false : (b : Bool) (r : Refusal) → verdictOf ((r when b) ∷ []) ≡ Done → b ≡ false
-due-false true r e = done-refused (sym e)
-due-false false r e = refl
-
-second-done : (o : Operation) (m : Metadata) (p : ℕ) (a b : List ℕ) → verdictOf (secondRules o m p a b) ≡ Done
+second-done : (o : Operation) (m : Metadata) (p : ℕ) (t a b : List ℕ) → verdictOf (laterRules o m p t a b) ≡ Done
     → (o ≡ Delete → Found b p m × (meets 𝓢 side-discrete (placeOf a) (placeOf b) ≡ true))
-second-done Read m p a b e q = let z : _≡_ {A = ℕ} 0 1 = cc in absurd (omega arith)
-second-done Replace m p a b e q = let z : _≡_ {A = ℕ} 0 1 = cc in absurd (omega arith)
-second-done Insert m p a b e q = let z : _≡_ {A = ℕ} 0 1 = cc in absurd (omega arith)
-second-done Delete m p a b e q =
+second-done Read m p t a b e q = let z : _≡_ {A = ℕ} 0 1 = cc in absurd (omega arith)
+second-done Replace m p t a b e q = let z : _≡_ {A = ℕ} 0 1 = cc in absurd (omega arith)
+second-done Insert m p t a b e q = let z : _≡_ {A = ℕ} 0 1 = cc in absurd (omega arith)
+second-done Delete m p t a b e q =
     let d = append-done (proofRules Second b p m) ((NotNeighbours when not
     (meets 𝓢 side-discrete (placeOf a) (placeOf b))) ∷ []) e in (
       rules-found Second b p m (d .0),
@@ -179,25 +162,25 @@ second-done Delete m p a b e q =
 
 module _ (m : Metadata) (k : Command) (a b : List ℕ) (done : verdictOf (gatewayRules m k a b) ≡ Done) where
   opened : (verdictOf (openingRules m k) ≡ Done)
-      × (verdictOf (proofRules First a (firstAt (meaning k)) m ++ secondRules (k .operation) m (k .position) a b)
+      × (verdictOf (proofRules First a (firstAt (meaning k)) m ++ laterRules (k .operation) m (k .position) (k .tag) a b)
       ≡ Done)
-  opened = append-done (openingRules m k) (proofRules First a (firstAt (meaning k)) m ++ secondRules (k .operation) m
-      (k .position) a b) done
+  opened = append-done (openingRules m k) (proofRules First a (firstAt (meaning k)) m ++ laterRules (k .operation) m
+      (k .position) (k .tag) a b) done
 
-  proved : (verdictOf (proofRules First a (firstAt (meaning k)) m) ≡ Done)
-      × (verdictOf (secondRules (k .operation) m (k .position) a b) ≡ Done)
-  proved = append-done (proofRules First a (firstAt (meaning k)) m) (secondRules (k .operation) m (k .position) a b)
+  pub proved : (verdictOf (proofRules First a (firstAt (meaning k)) m) ≡ Done)
+      × (verdictOf (laterRules (k .operation) m (k .position) (k .tag) a b) ≡ Done)
+  proved = append-done (proofRules First a (firstAt (meaning k)) m) (laterRules (k .operation) m (k .position) (k .tag) a b)
       (opened .1)
 
   pub done-passing : Passing m k a b
   done-passing = record {
     opening = opened .0;
     first = rules-found First a (firstAt (meaning k)) m (proved .0);
-    second = λ q. second-done (k .operation) m (k .position) a b (proved .1) q .0;
+    second = λ q. second-done (k .operation) m (k .position) (k .tag) a b (proved .1) q .0;
   }
 
   pub done-meets : k .operation ≡ Delete → meets 𝓢 side-discrete (placeOf a) (placeOf b) ≡ true
-  done-meets q = second-done (k .operation) m (k .position) a b (proved .1) q .1
+  done-meets q = second-done (k .operation) m (k .position) (k .tag) a b (proved .1) q .1
 
 pub some-inj : {x y : Side} → some x ≡ some y → x ≡ y
 some-inj e = cc
@@ -206,11 +189,7 @@ pub demand3 : Demand3
 unfolding gatewayOf
 demand3 m k a b bs l held done = go (model-says m k a b bs l held (done-passing m k a b done))
   where
-    go : SomeClash m k a b bs
-        ⊎ ((predicted sha256 (meaning k) (heldSide m) (placeOf a) (placeOf b)
-        ≡ some (metadataOf sha256 (edited (meaning k) bs)))
-        × (reported (meaning k) (placeOf a) (placeOf b) ≡ tagAt (spot (meaning k)) bs))
-        → SomeClash m k a b bs
+    go : SomeClash m k a b bs ⊎ Says (heldSide m) k a b bs → SomeClash m k a b bs
         ⊎ ((heldSide (gatewayOf m k a b .metadata) ≡ metadataOf sha256 (edited (meaning k) bs))
         × (gatewayOf m k a b .tag ≡ tagAt (spot (meaning k)) bs))
     go (inl c) = inl c
@@ -220,58 +199,45 @@ demand3 m k a b bs l held done = go (model-says m k a b bs l held (done-passing 
       rw done (r .1),
     )
 
+-- A REFUSAL BEHIND THE FIRST PROOF: 10 or 14
+opening-lacks : (n : ℕ) (m : Metadata) (k : Command) → 9 < n → (12 ≡ n → ⊥) → Lacks n (openingRules m k)
+opening-lacks n m k h e =
+    (e, (λ q. omega (arith, q, h), (λ q. omega (arith, q, h), (λ q. omega (arith, q, h), tt))))
+
+proof-lacks : (n : ℕ) (w : Which) (s : List ℕ) (p : ℕ) (m : Metadata) → 9 < n → Lacks n (proofRules w s p m)
+proof-lacks n w s p m h = (λ q. omega (arith, q, h), (λ q. omega (arith, q, h), (λ q. omega (arith, q, h), tt)))
+
+pub record Later (r : Refusal) (m : Metadata) (k : Command) (a b : List ℕ) : Type 0 where
+  pub opening : verdictOf (openingRules m k) ≡ Done
+  pub first : Found a (firstAt (meaning k)) m
+  pub rest : verdictOf (laterRules (k .operation) m (k .position) (k .tag) a b) ≡ Refused r
+
+pub later : (r : Refusal) (m : Metadata) (k : Command) (a b : List ℕ) → 9 < numberOf r → (12 ≡ numberOf r → ⊥)
+    → verdictOf (gatewayRules m k a b) ≡ Refused r → Later r m k a b
+later r m k a b h e refused =
+    let last = laterRules (k .operation) m (k .position) (k .tag) a b in
+    let x = behind r (openingRules m k) (proofRules First a (firstAt (meaning k)) m ++ last)
+    (opening-lacks (numberOf r) m k h e) refused in
+    let y = behind r (proofRules First a (firstAt (meaning k)) m) last
+    (proof-lacks (numberOf r) First a (firstAt (meaning k)) m h) (x .1) in
+    record { opening = x .0; first = rules-found First a (firstAt (meaning k)) m (y .0); rest = y .1 }
+
 -- 10 ONLY WITH A CLASH
-abbrev Lacks : Refusal → List Rule → Type 0
-Lacks r [] = Unit {0}
-Lacks r (x ∷ rs) = (x .refusal ≡ r → ⊥) × Lacks r rs
-
-lacks-never : (r : Refusal) (rs : List Rule) → Lacks r rs → verdictOf rs ≡ Refused r → ⊥
-lacks-never r [] l e = done-refused e
-lacks-never r (x ∷ rs) l e = go (x .due) e (lacks-never r rs (l .1))
-  where
-    go : (d : Bool) → cond d (Refused (x .refusal)) (verdictOf rs) ≡ Refused r → (verdictOf rs ≡ Refused r → ⊥) → ⊥
-    go true f rest = l .0 (cc)
-    go false f rest = rest f
-
--- where xs never gives r, a verdict r is that of what follows
-behind : (r : Refusal) (xs ys : List Rule) → Lacks r xs → verdictOf (xs ++ ys) ≡ Refused r → (verdictOf xs ≡ Done)
-    × (verdictOf ys ≡ Refused r)
-behind r xs ys l e = go (cases (verdictOf xs))
-  where
-    go : (verdictOf xs ≡ Done) ⊎ ((why : Refusal) × (verdictOf xs ≡ Refused why)) → (verdictOf xs ≡ Done)
-        × (verdictOf ys ≡ Refused r)
-    go (inl d) = (d, sym (verdict-append xs ys d) ∙ e)
-    go (inr w) =
-        let same : verdictOf xs ≡ Refused r = w .1 ∙ sym (verdict-first xs ys (w .0) (w .1)) ∙ e in
-        absurd (lacks-never r xs l same)
-
-not-it : _≡_ {A = ℕ} 0 1 → ⊥
-not-it z = omega arith
-
-opening-lacks : (m : Metadata) (k : Command) → Lacks NotNeighbours (openingRules m k)
-opening-lacks m k =
-    (λ e. not-it cc, (λ e. not-it cc, (λ e. not-it cc, (λ e. not-it cc, tt))))
-
-proof-lacks : (w : Which) (s : List ℕ) (p : ℕ) (m : Metadata) → Lacks NotNeighbours (proofRules w s p m)
-proof-lacks w s p m = (λ e. not-it cc, (λ e. not-it cc, (λ e. not-it cc, tt)))
-
-due-true : (b : Bool) (r s : Refusal) → verdictOf ((r when b) ∷ []) ≡ Refused s → b ≡ true
-due-true true r s e = refl
-due-true false r s e = done-refused e
-
 record Apart (o : Operation) (m : Metadata) (p : ℕ) (a b : List ℕ) : Type 0 where
   delete : o ≡ Delete
   found : Found b p m
   unmet : meets 𝓢 side-discrete (placeOf a) (placeOf b) ≡ false
 
-second-apart : (o : Operation) (m : Metadata) (p : ℕ) (a b : List ℕ) → verdictOf (secondRules o m p a b)
+second-apart : (o : Operation) (m : Metadata) (p : ℕ) (t a b : List ℕ) → verdictOf (laterRules o m p t a b)
     ≡ Refused NotNeighbours → Apart o m p a b
-second-apart Read m p a b e = done-refused e
-second-apart Replace m p a b e = done-refused e
-second-apart Insert m p a b e = done-refused e
-second-apart Delete m p a b e =
+second-apart Read m p t a b e = done-refused e
+second-apart Replace m p t a b e = done-refused e
+second-apart Insert m p t a b e =
+    absurd (lacks-never NotNeighbours (laterRules Insert m p t a b) (λ q. omega (arith, q), tt) e)
+second-apart Delete m p t a b e =
     let d = behind NotNeighbours (proofRules Second b p m)
-    ((NotNeighbours when not (meets 𝓢 side-discrete (placeOf a) (placeOf b))) ∷ []) (proof-lacks Second b p m) e in
+    ((NotNeighbours when not (meets 𝓢 side-discrete (placeOf a) (placeOf b))) ∷ [])
+    (proof-lacks 10 Second b p m (omega arith)) e in
     record {
       delete = refl;
       found = rules-found Second b p m (d .0);
@@ -286,33 +252,16 @@ pub neighbours-meet : NeighboursMeet
 unfolding gatewayOf
 neighbours-meet m k a b bs l held refused = go (model-says m k a b bs l held passing)
   where
-    opened : (verdictOf (openingRules m k) ≡ Done)
-        × (verdictOf (proofRules First a (firstAt (meaning k)) m ++ secondRules (k .operation) m (k .position) a b)
-        ≡ Refused NotNeighbours)
-    opened = behind NotNeighbours (openingRules m k) (proofRules First a (firstAt (meaning k)) m ++ secondRules
-        (k .operation) m (k .position) a b)
-        (opening-lacks m k) refused
-
-    proved : (verdictOf (proofRules First a (firstAt (meaning k)) m) ≡ Done)
-        × (verdictOf (secondRules (k .operation) m (k .position) a b) ≡ Refused NotNeighbours)
-    proved = behind NotNeighbours (proofRules First a (firstAt (meaning k)) m)
-        (secondRules (k .operation) m (k .position) a b) (proof-lacks First a (firstAt (meaning k)) m) (opened .1)
+    x : Later NotNeighbours m k a b
+    x = later NotNeighbours m k a b (omega arith) (λ q. omega (arith, q)) refused
 
     apart : Apart (k .operation) m (k .position) a b
-    apart = second-apart (k .operation) m (k .position) a b (proved .1)
+    apart = second-apart (k .operation) m (k .position) (k .tag) a b (x .rest)
 
     passing : Passing m k a b
-    passing = record {
-      opening = opened .0;
-      first = rules-found First a (firstAt (meaning k)) m (proved .0);
-      second = λ q. apart .found;
-    }
+    passing = record { opening = x .opening; first = x .first; second = λ q. apart .found }
 
-    go : SomeClash m k a b bs
-        ⊎ ((predicted sha256 (meaning k) (heldSide m) (placeOf a) (placeOf b)
-        ≡ some (metadataOf sha256 (edited (meaning k) bs)))
-        × (reported (meaning k) (placeOf a) (placeOf b) ≡ tagAt (spot (meaning k)) bs))
-        → SomeClash m k a b bs
+    go : SomeClash m k a b bs ⊎ Says (heldSide m) k a b bs → SomeClash m k a b bs
     go (inl c) = c
     go (inr r) =
         let gone : predicted sha256 (meaning k) (heldSide m) (placeOf a) (placeOf b)

@@ -14,6 +14,7 @@ use Rattle.refusals.specs.declared.Which.the-variants.{First, Second}
 use Rattle.refusals.specs.declared.Refusal.the-variants.{NotNeighbours}
 use Rattle.refusals.specs.declared.Verdict.the-variants.{Done}
 use Rattle.refusals.specs.Order.{_when_, verdictOf}
+use Rattle.refusals.proofs.OrderLaws.{verdict-append}
 use Rattle.sha256.specs.Hash.{sha256}
 use Rattle.sha256.proofs.Hashes.{sha256-length}
 use Rattle.skiplist.specs.Row.{Item}
@@ -28,7 +29,7 @@ use Rattle.skiplist.specs.Check.{Accepted}
 use Rattle.skiplist.specs.Limits.{mostHeight}
 use Rattle.skiplist.specs.Blocks.{Block, Kept, Sent, WithinLimits, head, row, wayTo, metadataOf, shown, tagAt}
 use Rattle.skiplist.specs.Commands as model
-use Rattle.skiplist.specs.Commands.{InRange, edited, spot, firstAt, reported, predicted}
+use Rattle.skiplist.specs.Commands.{InRange, edited, spot, repeatsAt, firstAt, reported, predicted}
 use Rattle.skiplist.proofs.RankLaws.{side-weight}
 use Rattle.skiplist.proofs.GoodTree.{NonEmpty, Good, tree-good, good-rank}
 use Rattle.skiplist.proofs.SideLaws.{entryOf}
@@ -39,17 +40,19 @@ use Rattle.skiplist.proofs.Predictions.{predicted-way, reported-way}
 use Rattle.commands.specs.declared.Metadata.{Metadata}
 use Rattle.commands.specs.declared.Operation.{Operation}
 use Rattle.commands.specs.declared.Operation.the-variants.{Read, Replace, Insert, Delete}
+use Rattle.commands.specs.declared.Command.{Command}
 use Rattle.commands.specs.Meaning.{heldSide, metadataOfSide, orderOf, meaning}
+use Rattle.commands.proofs.RangeLaws.{range-admitted, spot-is, first-in-row, spot-in-row, not-again}
+use Rattle.proofbytes.specs.Layout.{mostEntries}
 use Rattle.proofbytes.specs.Reading.{placeOf}
 use Rattle.proofbytes.specs.Form.{AllFit, BesideFits, Writable}
 use Rattle.proofbytes.proofs.ReadBack.{written-formed, written-read}
 use Rattle.gateway.specs.declared.examine.Finding.the-variants.{Fine}
 use Rattle.gateway.specs.Checking.{𝓢, proofRules}
 use Rattle.gateway.specs.Working.{findingOf}
-use Rattle.gateway.specs.Gateway.{secondRules, openingRules, gatewayRules, newMetadata, gatewayOf}
+use Rattle.gateway.specs.Gateway.{laterRules, openingRules, gatewayRules, newMetadata, gatewayOf}
 use Rattle.gateway.specs.Demand.{proofFor, HonestAccepted}
-use Rattle.gateway.proofs.Answers.{verdict-append}
-use Rattle.gateway.proofs.Accepts.{accepted-fine, range-admitted}
+use Rattle.gateway.proofs.Accepts.{accepted-fine}
 use Rattle.gateway.proofs.Demands.{new-predicted, some-inj, none-some, found-rules}
 
 -- HONEST PROOFS: the sides of a row's path are what bytes can carry
@@ -157,25 +160,6 @@ predicted-same Replace p h t m z w v e = refl
 predicted-same Insert p h t m z w v e = refl
 predicted-same Delete p h t m z w v e = ap (deleted 𝓢 side-discrete z) (e refl)
 
-pub first-in-row : (o : Operation) (p h : ℕ) (t : List ℕ) (n : ℕ) → InRange (orderOf o p h t) n
-    → firstAt (orderOf o p h t) ≤ n
-first-in-row Read p h t n r = r .1
-first-in-row Replace p h t n r = r .1
-first-in-row Insert p h t n r = r .0
-first-in-row Delete p h t n r = omega (arith, r .1)
-
-pub spot-is : (o : Operation) (p h : ℕ) (t : List ℕ) → spot (orderOf o p h t) ≡ p
-spot-is Read p h t = refl
-spot-is Replace p h t = refl
-spot-is Insert p h t = refl
-spot-is Delete p h t = refl
-
-pub spot-in-row : (o : Operation) (p h : ℕ) (t : List ℕ) (n : ℕ) → InRange (orderOf o p h t) n → p ≤ n
-spot-in-row Read p h t n r = r .1
-spot-in-row Replace p h t n r = r .1
-spot-in-row Insert p h t n r = r .0
-spot-in-row Delete p h t n r = r .1
-
 -- where Delete's prediction is there, the proofs meet
 predicted-meets : (o : Operation) (p h : ℕ) (t : List ℕ) (m : Side) (z w : Place Side) (s : Side)
     → predicted sha256 (orderOf o p h t) m z w ≡ some s → o ≡ Delete → meets 𝓢 side-discrete z w ≡ true
@@ -188,31 +172,57 @@ predicted-meets Delete p h t m z w s e q = go (meets 𝓢 side-discrete z w) e
     go true f = refl
     go false f = none-some f
 
-second-rules-done : (o : Operation) (m : Metadata) (p : ℕ) (a b : List ℕ) → (o ≡ Delete → findingOf b p m ≡ Fine)
-    → (o ≡ Delete → meets 𝓢 side-discrete (placeOf a) (placeOf b) ≡ true) → verdictOf (secondRules o m p a b) ≡ Done
-second-rules-done Read m p a b f e = refl
-second-rules-done Replace m p a b f e = refl
-second-rules-done Insert m p a b f e = refl
-second-rules-done Delete m p a b f e =
+later-rules-done : (o : Operation) (m : Metadata) (p : ℕ) (t a b : List ℕ)
+    → (o ≡ Insert → repeatsAt p t (shown (placeOf a .item)) ≡ false) → (o ≡ Delete → findingOf b p m ≡ Fine)
+    → (o ≡ Delete → meets 𝓢 side-discrete (placeOf a) (placeOf b) ≡ true) → verdictOf (laterRules o m p t a b) ≡ Done
+later-rules-done Read m p t a b n f e = refl
+later-rules-done Replace m p t a b n f e = refl
+later-rules-done Insert m p t a b n f e = rw (n refl)
+later-rules-done Delete m p t a b n f e =
     verdict-append (proofRules Second b p m) ((NotNeighbours when not
     (meets 𝓢 side-discrete (placeOf a) (placeOf b))) ∷ [])
     (found-rules Second b p m (f refl)) ∙ rw (e refl)
 
+-- the honest first proof passes, so the verdict is that of the rules after it
+module _ (m : Metadata) (k : Command) (a b : List ℕ) (bs : List Block) (l : WithinLimits bs)
+    (range : InRange (meaning k) (length bs)) (held : heldSide m ≡ metadataOf sha256 bs)
+    (ea : a ≡ proofFor (firstAt (meaning k)) bs) (few : length (wayTo (firstAt (meaning k)) bs .entries) ≤ mostEntries)
+  where
+    honest-opening : verdictOf (openingRules m k) ≡ Done
+    honest-opening =
+        let count : m .count ≡ length bs = ap (λ (s : Side). s .rank) held ∙ metadata-count sha256 bs in
+        rw (le-ltb 4096 (m .count) (omega (arith, count, l .count)))
+        (range-admitted (k .operation) (k .position) (k .height) (k .tag) (m .count)
+        (subst (InRange (meaning k)) (sym count) range))
+
+    pub honest-passes : verdictOf (gatewayRules m k a b)
+        ≡ verdictOf (laterRules (k .operation) m (k .position) (k .tag) a b)
+    honest-passes =
+        let p = firstAt (meaning k) in
+        let in-row = first-in-row (k .operation) (k .position) (k .height) (k .tag) (length bs) range in
+        let fine : findingOf a p m ≡ Fine = rw ea (way-fine p bs l in-row few m held) in
+        let last = laterRules (k .operation) m (k .position) (k .tag) a b in
+        verdict-append (openingRules m k) (proofRules First a p m ++ last) honest-opening
+        ∙ verdict-append (proofRules First a p m) last (found-rules First a p m fine)
+
+-- the tag at the stop of Insert's honest proof is the one at its place
+pub honest-tag : (k : Command) (a : List ℕ) (bs : List Block) → WithinLimits bs → InRange (meaning k) (length bs)
+    → a ≡ proofFor (firstAt (meaning k)) bs → length (wayTo (firstAt (meaning k)) bs .entries) ≤ mostEntries
+    → k .operation ≡ Insert → shown (placeOf a .item) ≡ tagAt (k .position) bs
+honest-tag k a bs l range ea few q =
+    let place : placeOf a ≡ labelled sha256 (wayTo (firstAt (meaning k)) bs) = ap placeOf ea
+    ∙ way-place (firstAt (meaning k)) bs l
+    (first-in-row (k .operation) (k .position) (k .height) (k .tag) (length bs) range) few in
+    ap (λ (z : Place Side). shown (z .item)) (rw q at place)
+    ∙ (rw q at (reported-way sha256 bs (l .sound) (meaning k) range))
+
 pub honest-accepted : HonestAccepted
 unfolding gatewayOf
-honest-accepted m k a b bs l range held ea few eb = rw done
+honest-accepted m k a b bs l range anew held ea few eb = rw done
     (λ i. record { verdict = Done; tag = tag i; metadata = new i })
   where
     o : Operation
     o = k .operation
-
-    count : m .count ≡ length bs
-    count = ap (λ (s : Side). s .rank) held ∙ metadata-count sha256 bs
-
-    opening : verdictOf (openingRules m k) ≡ Done
-    opening = rw (le-ltb 4096 (m .count) (omega (arith, count, l .count)))
-        (range-admitted (k .operation) (k .position) (k .height) (k .tag) (m .count)
-        (subst (InRange (meaning k)) (sym count) range))
 
     in-row : firstAt (meaning k) ≤ length bs
     in-row = first-in-row (k .operation) (k .position) (k .height) (k .tag) (length bs) range
@@ -242,17 +252,15 @@ honest-accepted m k a b bs l range held ea few eb = rw done
     met q = predicted-meets (k .operation) (k .position) (k .height) (k .tag) (heldSide m) (placeOf a) (placeOf b)
         (metadataOf sha256 (edited (meaning k) bs)) foretold q
 
-    second : verdictOf (secondRules (k .operation) m (k .position) a b) ≡ Done
-    second = second-rules-done (k .operation) m (k .position) a b
+    other-tag : k .operation ≡ Insert → repeatsAt (k .position) (k .tag) (shown (placeOf a .item)) ≡ false
+    other-tag q = rw (honest-tag k a bs l range ea few q) (rw q at (not-again bs k range anew))
+
+    last : verdictOf (laterRules (k .operation) m (k .position) (k .tag) a b) ≡ Done
+    last = later-rules-done (k .operation) m (k .position) (k .tag) a b other-tag
         (λ q. rw (eb q .0) (way-fine (k .position) bs l at-row (eb q .1) m held)) met
 
     done : verdictOf (gatewayRules m k a b) ≡ Done
-    done =
-        verdict-append (openingRules m k) (proofRules First a (firstAt (meaning k)) m ++ secondRules (k .operation) m
-        (k .position) a b) opening
-        ∙ verdict-append (proofRules First a (firstAt (meaning k)) m) (secondRules (k .operation) m (k .position) a b)
-        (found-rules First a (firstAt (meaning k)) m fine)
-        ∙ second
+    done = honest-passes m k a b bs l range held ea few ∙ last
 
     tag : reported (meaning k) (placeOf a) (placeOf b) ≡ tagAt (spot (meaning k)) bs
     tag =

@@ -12,3 +12,4 @@ pub mod Pledge
 pub mod Accepts
 pub mod Demands
 pub mod Honest
+pub mod Repeats

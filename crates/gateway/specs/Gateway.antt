@@ -1,5 +1,5 @@
 -- THE GATEWAY'S ANSWER to a command with its proofs, as a function of all that it is given. "Gateway: 12, 2, 3, 4,
--- then 7, 8, 9 on the first proof, the same on the second, then 10."
+-- then 7, 8, 9 on the first proof, the same on the second, then 10"; ask 4: 14 "after 9".
 -- Assumes nothing.
 use Prim.Native.Nat.{ℕ}
 use mathlib.Core.Path.{_≡_}
@@ -7,7 +7,7 @@ use mathlib.Core.Bool.{not}
 use mathlib.Core.List.{List, [], _∷_, _++_}
 use lib.Dec.{ltb}
 use Rattle.refusals.specs.declared.Which.the-variants.{First, Second}
-use Rattle.refusals.specs.declared.Refusal.the-variants.{BadMetadata, NotNeighbours}
+use Rattle.refusals.specs.declared.Refusal.the-variants.{BadMetadata, NotNeighbours, Repeated}
 use Rattle.refusals.specs.declared.Verdict.{Verdict}
 use Rattle.refusals.specs.declared.Verdict.the-variants.{Done}
 use Rattle.refusals.specs.Order.{Rule, _when_, verdictOf, settled}
@@ -15,8 +15,8 @@ use Rattle.skiplist.specs.Limits.{mostBlocks}
 use Rattle.skiplist.specs.Edits.{replaced, inserted}
 use Rattle.skiplist.specs.Equal.{side-discrete}
 use Rattle.skiplist.specs.Meeting.{meets, remains}
-use Rattle.skiplist.specs.Blocks.{zeros, blockItem, column}
-use Rattle.skiplist.specs.Commands.{firstAt, reported}
+use Rattle.skiplist.specs.Blocks.{zeros, blockItem, column, shown}
+use Rattle.skiplist.specs.Commands.{repeatsAt, firstAt, reported}
 use Rattle.commands.specs.declared.Metadata.{Metadata}
 use Rattle.commands.specs.declared.Operation.{Operation}
 use Rattle.commands.specs.declared.Operation.the-variants.{Read, Replace, Insert, Delete}
@@ -27,12 +27,12 @@ use Rattle.proofbytes.specs.Reading.{placeOf}
 use Rattle.gateway.specs.declared.Answer.{Answer}
 use Rattle.gateway.specs.Checking.{𝓢, proofRules}
 
--- Delete's second proof, for p, and the meeting of the two
-abbrev pub secondRules : Operation → Metadata → ℕ → List ℕ → List ℕ → List Rule
-secondRules Read m p first second = []
-secondRules Replace m p first second = []
-secondRules Insert m p first second = []
-secondRules Delete m p first second =
+-- after the first proof's: whether Insert repeats the tag at its place; Delete's second proof, for p, and the meeting of the two
+abbrev pub laterRules : Operation → Metadata → ℕ → List ℕ → List ℕ → List ℕ → List Rule
+laterRules Read m p tag first second = []
+laterRules Replace m p tag first second = []
+laterRules Insert m p tag first second = (Repeated when repeatsAt p tag (shown (placeOf first .item))) ∷ []
+laterRules Delete m p tag first second =
     proofRules Second second p m
     ++ ((NotNeighbours when not (meets 𝓢 side-discrete (placeOf first) (placeOf second))) ∷ [])
 
@@ -43,7 +43,7 @@ openingRules m k = (BadMetadata when ltb mostBlocks (m .count)) ∷ admissionRul
 abbrev pub gatewayRules : Metadata → Command → List ℕ → List ℕ → List Rule
 gatewayRules m k first second =
     openingRules m k
-    ++ (proofRules First first (firstAt (meaning k)) m ++ secondRules (k .operation) m (k .position) first second)
+    ++ (proofRules First first (firstAt (meaning k)) m ++ laterRules (k .operation) m (k .position) (k .tag) first second)
 
 -- "The new metadata is always worked out from the proofs": of Replace, of Insert, of Delete
 abbrev pub replacedOf : List ℕ → List ℕ → Metadata

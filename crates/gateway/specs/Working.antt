@@ -1,9 +1,7 @@
--- What the gateway's private functions answer, on the way to `gatewayOf`: the check of one proof as a finding, with
--- what is kept of it, and
--- the answer from each place on. That they make up `gatewayOf` is proved (Answers).
+-- What the gateway's private functions answer, on the way to `gatewayOf`: the check of one proof as a finding, with what is kept of it,
+-- and the answer from each place on. That they make up `gatewayOf` is proved (Answers).
 -- Assumes nothing.
 use Prim.Native.Nat.{ℕ, _-_}
-use Prim.Native.Nat.{ℕ}
 use Rattle.commands.specs.Meaning.{meaning}
 use Rattle.commands.specs.declared.Command.{Command}
 use Rattle.commands.specs.declared.Metadata.{Metadata}
@@ -18,9 +16,7 @@ use Rattle.labels.specs.declared.Side.{Side}
 use Rattle.octets.specs.Runs.{same}
 use Rattle.proofbytes.specs.Form.{wellFormed}
 use Rattle.proofbytes.specs.Reading.{entriesFrom, countOf, placeOf}
-use Rattle.proofbytes.specs.Reading.{placeOf}
-use Rattle.refusals.specs.Order.{_when_, verdictOf}
-use Rattle.refusals.specs.Order.{_when_}
+use Rattle.refusals.specs.Order.{Rule, _when_, verdictOf}
 use Rattle.refusals.specs.declared.Refusal.the-variants.{NotNeighbours}
 use Rattle.refusals.specs.declared.Refusal.the-variants.{BadProof, WrongPosition, WrongLabel}
 use Rattle.refusals.specs.declared.Refusal.{Refusal}
@@ -34,12 +30,10 @@ use Rattle.skiplist.specs.Equal.{side-discrete}
 use Rattle.skiplist.specs.Meeting.{meets}
 use Rattle.skiplist.specs.Recompute.{provedRank}
 use mathlib.Core.Bool.{true, not, cond, _&&_}
-use mathlib.Core.Bool.{not}
 use mathlib.Core.List.{List, [], _∷_, _++_}
-use mathlib.Core.List.{List, [], _∷_}
 use mathlib.Core.Path.{_≡_}
 use Rattle.gateway.specs.Checking.{𝓢, proves, ranked, rooted, proofRules}
-use Rattle.gateway.specs.Gateway.{secondRules, remainingOf, newMetadata, answered}
+use Rattle.gateway.specs.Gateway.{laterRules, remainingOf, newMetadata, answered}
 
 -- the same without a word of which proof
 unfoldable pub findingOf : List ℕ → ℕ → Metadata → Finding
@@ -88,9 +82,9 @@ metadataFrom x = record { count = x .rank; label = x .label }
 abbrev pub refusedOf : Metadata → Refusal → Answer
 refusedOf m why = record { verdict = Refused why; tag = zeros; metadata = m }
 
--- a command with one proof s, for p
-unfoldable pub oneOf : Metadata → ℕ → List ℕ → Metadata → Answer
-oneOf m p s new = answered (verdictOf (proofRules First s p m)) (shown (placeOf s .item)) new m
+-- a command with one proof s, for p, and the rules that come after the proof's
+unfoldable pub oneOf : Metadata → ℕ → List ℕ → List Rule → Metadata → Answer
+oneOf m p s rest new = answered (verdictOf (proofRules First s p m ++ rest)) (shown (placeOf s .item)) new m
 
 -- Delete: once both proofs have passed, once the first has, and from the first on
 unfoldable pub afterBoth : Metadata → List ℕ → List ℕ → Answer
@@ -99,18 +93,18 @@ afterBoth m a b =
     (shown (placeOf b .item)) (remainingOf a b) m
 
 unfoldable pub afterFirst : Metadata → ℕ → List ℕ → List ℕ → Answer
-afterFirst m p a b = answered (verdictOf (secondRules Delete m p a b)) (shown (placeOf b .item)) (remainingOf a b) m
+afterFirst m p a b = answered (verdictOf (laterRules Delete m p [] a b)) (shown (placeOf b .item)) (remainingOf a b) m
 
 unfoldable pub deletedOf : Metadata → ℕ → List ℕ → List ℕ → Answer
 deletedOf m p a b =
-    answered (verdictOf (proofRules First a (p - 1) m ++ secondRules Delete m p a b)) (shown (placeOf b .item))
+    answered (verdictOf (proofRules First a (p - 1) m ++ laterRules Delete m p [] a b)) (shown (placeOf b .item))
     (remainingOf a b) m
 
 -- any command, from the first proof on
 unfoldable pub workedOf : Metadata → Command → List ℕ → List ℕ → Answer
 workedOf m k first second =
     answered
-    (verdictOf (proofRules First first (firstAt (meaning k)) m ++ secondRules (k .operation) m (k .position) first
-    second))
+    (verdictOf (proofRules First first (firstAt (meaning k)) m ++ laterRules (k .operation) m (k .position) (k .tag)
+    first second))
     (reported (meaning k) (placeOf first) (placeOf second))
     (newMetadata (k .operation) (k .height) (k .tag) m first second) m

@@ -1,18 +1,20 @@
 //! The gateway: metadata saved and loaded, and the check of a command with its proofs.
 ghost use mathlib.Core.Path.{_≡_};
+ghost use mathlib.Core.List.{[]};
 ghost use Prim.Native.Nat.{_+_, _≤_};
 ghost use Rattle.refusals.specs.declared.Verdict.the-variants.{Done};
 ghost use Rattle.refusals.specs.Order.{verdictOf};
 ghost use Rattle.skiplist.specs.Limits.{mostBlocks};
 ghost use Rattle.skiplist.specs.Blocks.{shown as shown_is};
 ghost use Rattle.refusals.specs.declared.Which.the-variants.{First};
+ghost use Rattle.commands.specs.declared.Operation.the-variants.{Insert};
 ghost use Rattle.proofbytes.specs.Reading.{Sized, placeOf};
 ghost use Rattle.gateway.specs.Climbing.{belowOf};
 ghost use Rattle.gateway.specs.Parting.{sharedOf};
 ghost use Rattle.gateway.specs.Working.{findingOf, blamed, Passed};
 ghost use Rattle.gateway.specs.Gateway.{openingRules, acceptedOf, replacedOf};
 ghost use Rattle.gateway.specs.Working.{metadataFrom, refusedOf};
-ghost use Rattle.gateway.specs.Gateway.{insertedOf, Checks};
+ghost use Rattle.gateway.specs.Gateway.{laterRules, insertedOf, Checks};
 ghost use Rattle.gateway.specs.Working.{oneOf, afterBoth, afterFirst, deletedOf, workedOf};
 use crate::examine::Finding;
 use commands::Command;
@@ -106,7 +108,7 @@ fn first_verdict(m: Metadata, p: u64, s: &[u8]) -> Verdict
 // "Read p: reports the tag, metadata stays."
 fn read(m: Metadata, p: u64, s: &[u8]) -> Answer
     requires { ⌜ m .count ≤ mostBlocks ⌝ }
-    ensures { λ r. ⌜ r ≡ oneOf m p (now (s .entry)) m ⌝ }
+    ensures { λ r. ⌜ r ≡ oneOf m p (now (s .entry)) [] m ⌝ }
 {
     let v = first_verdict(m, p, s);
     match v {
@@ -118,7 +120,7 @@ fn read(m: Metadata, p: u64, s: &[u8]) -> Answer
 // "Replace p by a tag": the new tag in the stop.
 fn replace(m: Metadata, p: u64, tag: [u8; 32], s: &[u8]) -> Answer
     requires { ⌜ m .count ≤ mostBlocks ⌝ }
-    ensures { λ r. ⌜ r ≡ oneOf m p (now (s .entry)) (replacedOf tag (now (s .entry))) ⌝ }
+    ensures { λ r. ⌜ r ≡ oneOf m p (now (s .entry)) [] (replacedOf tag (now (s .entry))) ⌝ }
 {
     let v = first_verdict(m, p, s);
     match v {
@@ -130,15 +132,19 @@ fn replace(m: Metadata, p: u64, tag: [u8; 32], s: &[u8]) -> Answer
     }
 }
 
-// "Insert after p a tag with a height."
+// "Insert after p a tag with a height": not the tag at p.
 fn insert(m: Metadata, p: u64, height: u8, tag: [u8; 32], s: &[u8]) -> Answer
     requires { ⌜ m .count ≤ mostBlocks ⌝ }
-    ensures { λ r. ⌜ r ≡ oneOf m p (now (s .entry)) (insertedOf height tag (now (s .entry))) ⌝ }
+    ensures { λ r. ⌜ r ≡ oneOf m p (now (s .entry)) (laterRules Insert m p tag (now (s .entry)) [])
+        (insertedOf height tag (now (s .entry))) ⌝ }
 {
     let v = first_verdict(m, p, s);
     match v {
         Verdict::Refused(why) => refused(m, why),
         Verdict::Done => {
+            if commands::repeated(p, tag, shown(s)) {
+                return refused(m, Refusal::Repeated);
+            }
             let x = predict::insert(s, proofbytes::read::entry_count(s), height, tag);
             accepted(shown(s), metadata_of(x))
         }

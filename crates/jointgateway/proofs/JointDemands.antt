@@ -17,12 +17,13 @@ use Rattle.refusals.specs.declared.Which.{Which}
 use Rattle.refusals.specs.declared.Which.the-variants.{First, Place}
 use Rattle.refusals.specs.declared.Verdict.the-variants.{Done}
 use Rattle.refusals.specs.Order.{verdictOf, settled}
-use Rattle.refusals.proofs.OrderLaws.{done-none, none-done}
+use Rattle.refusals.proofs.OrderLaws.{done-none, none-done, verdict-append, append-done}
 use Rattle.skiplist.specs.Blocks.{zeros, shown, tagAt}
 use Rattle.skiplist.proofs.Cases.{order}
 use Rattle.skiplist.proofs.ClashLaws.{Within, within-left, within-right, clash-within}
 use Rattle.commands.specs.declared.Metadata.{Metadata}
 use Rattle.commands.specs.declared.Operation.the-variants.{Read}
+use Rattle.commands.proofs.RangeLaws.{range-admitted}
 use Rattle.proofbytes.specs.Reading.{placeOf}
 use Rattle.proofbytes.proofs.FormLaws.{both}
 use Rattle.proofbytes.proofs.WrittenBack.{formed-writable}
@@ -33,9 +34,7 @@ use Rattle.gateway.specs.Checking.{proofRules}
 use Rattle.gateway.specs.Gateway as single
 use Rattle.gateway.specs.Gateway.{gatewayOf}
 use Rattle.gateway.specs.Hashing.{oneMessages, gatewayMessages}
-use Rattle.gateway.proofs.Answers.{verdict-append}
-use Rattle.gateway.proofs.Accepts.{range-admitted}
-use Rattle.gateway.proofs.Demands.{append-done, rules-found, demand3}
+use Rattle.gateway.proofs.Demands.{rules-found, demand3}
 use Rattle.jointgateway.specs.Joint.{proofAt, openingRules, placeRules, tagsOf, noTags, jointOf}
 use Rattle.jointgateway.specs.Demand.{readAt, EveryRead, AcceptedExactly, messagesFrom, jointMessages, JointDemand3}
 use Rattle.jointgateway.specs.Demand.{MetadataStays}

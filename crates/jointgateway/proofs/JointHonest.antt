@@ -151,7 +151,8 @@ module _ (m : Metadata) (bs : List Block) (l : WithinLimits bs) (held : heldSide
   read-honest : (p : ℕ) → 1 ≤ p → p ≤ length bs → length (wayTo p bs .entries) ≤ 200
       → gatewayOf m (readAt p) (proofFor p bs) [] ≡ acceptedOf (tagAt p bs) (metadataOfSide (metadataOf sha256 bs))
   read-honest p low high few =
-      honest-accepted m (readAt p) (proofFor p bs) [] bs l (low, high) held refl few
+      honest-accepted m (readAt p) (proofFor p bs) [] bs l (low, high)
+      (λ w. let q = w .insert in let z : _≡_ {A = ℕ} 0 1 = cc in absurd (omega arith)) held refl few
       (λ q. let z : _≡_ {A = ℕ} 0 1 = cc in absurd (omega arith))
 
   -- the proofs from the i-th on, where they are the honest ones for ps

@@ -18,7 +18,7 @@ use Rattle.archive.specs.Reading.{layoutOf, countOf, sound}
 use Rattle.jointbytes.specs.Positions.{isSet, within}
 use Rattle.store.specs.declared.Proved.{Proved}
 use Rattle.store.specs.Passes.{refusedProof}
-use Rattle.store.proofs.ProveLaws.{done-is}
+use Rattle.refusals.proofs.OrderLaws.{done-is}
 use Rattle.jointstore.specs.Answers.{jointAt, allShallow, jointRules, jointVerdict, jointOf, bufferAfter}
 use Rattle.jointstore.specs.Passes.{answerOf}
 use Rattle.jointstore.specs.Pledges.{Proves}

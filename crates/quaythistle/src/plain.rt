@@ -23,7 +23,7 @@ pub struct QtDigest {
     pub bytes: [u8; 32],
 }
 
-// The refusal's number in document 01's table, 0 where the call is done, and the proof that it speaks of: 1 the first, 2 the second,
+// The refusal's number in documents 01 and 02, 0 where the call is done, and the proof that it speaks of: 1 the first, 2 the second,
 // 0 none; of a joint proof the place.
 #[repr(C)]
 pub struct QtVerdict {

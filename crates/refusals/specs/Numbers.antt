@@ -1,5 +1,5 @@
--- Each refusal's number in document 01's table "What comes back when it will not", and the proof that it speaks of:
--- "7, 8 and 9 also say which proof, first or second"; of a joint proof "with its place".
+-- Each refusal's number in document 01's table "What comes back when it will not", from 13 on in document 02's asks, and the proof that
+-- it speaks of: "7, 8 and 9 also say which proof, first or second"; of a joint proof "with its place".
 -- Assumes nothing.
 use Prim.Native.Nat.{ℕ}
 use Rattle.refusals.specs.declared.Which.{Which}
@@ -7,7 +7,7 @@ use Rattle.refusals.specs.declared.Which.the-variants.{First, Second, Pl
 use Rattle.refusals.specs.declared.Refusal.{Refusal}
 use Rattle.refusals.specs.declared.Refusal.the-variants.{BadImage, BadPosition, BadHeight, Full, NoRoom, TooDeep}
 use Rattle.refusals.specs.declared.Refusal.the-variants.{BadProof, WrongPosition, WrongLabel, NotNeighbours}
-use Rattle.refusals.specs.declared.Refusal.the-variants.{LongMessage, BadMetadata, BadSet}
+use Rattle.refusals.specs.declared.Refusal.the-variants.{LongMessage, BadMetadata, BadSet, Repeated}
 use Rattle.refusals.specs.declared.Verdict.{Verdict}
 use Rattle.refusals.specs.declared.Verdict.the-variants.{Done, Refused}
 
@@ -25,6 +25,7 @@ numberOf NotNeighbours = 10
 numberOf LongMessage = 11
 numberOf BadMetadata = 12
 numberOf BadSet = 13
+numberOf Repeated = 14
 
 -- nothing refused is 0
 abbrev pub verdictNumber : Verdict → ℕ
@@ -51,3 +52,4 @@ proofOf NotNeighbours = 0
 proofOf LongMessage = 0
 proofOf BadMetadata = 0
 proofOf BadSet = 0
+proofOf Repeated = 0

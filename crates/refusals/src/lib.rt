@@ -1,5 +1,5 @@
-// What comes back when a call will not (document 01, "What comes back when it will not"): one refusal for each number of
-// the table, 7, 8 and 9 with the proof that they speak of.
+// What comes back when a call will not (document 01, "What comes back when it will not", and document 02's asks): one refusal for each
+// number of the table, 7, 8 and 9 with the proof that they speak of.
 ghost use mathlib.Core.Path.{_≡_};
 ghost use Rattle.refusals.specs.Numbers.{numberOf, proofOf, proofNumber, verdictNumber};
 ghost use Rattle.refusals.specs.Order.{isDone};
@@ -26,6 +26,7 @@ pub enum Refusal {
     LongMessage,
     BadMetadata,
     BadSet,
+    Repeated,
 }
 
 pub enum Verdict {
@@ -33,7 +34,7 @@ pub enum Verdict {
     Refused(Refusal),
 }
 
-// The refusal's number in document 01's table.
+// The refusal's number in document 01's table, from 13 on in document 02's asks.
 pub fn number(r: Refusal) -> u8
     ensures { λ n. ⌜ n ≡ numberOf r ⌝ }
 {
@@ -51,6 +52,7 @@ pub fn number(r: Refusal) -> u8
         Refusal::LongMessage => 11,
         Refusal::BadMetadata => 12,
         Refusal::BadSet => 13,
+        Refusal::Repeated => 14,
     }
 }
 
@@ -101,5 +103,6 @@ pub fn proof(r: Refusal) -> u8
         Refusal::LongMessage => 0,
         Refusal::BadMetadata => 0,
         Refusal::BadSet => 0,
+        Refusal::Repeated => 0,
     }
 }

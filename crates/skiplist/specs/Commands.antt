@@ -4,9 +4,12 @@
 use Prim.Native.Nat.{ℕ, _-_, _≤_, _<_}
 use mathlib.Core.Path.{_≡_}
 use mathlib.Core.Logic.{_⊎_}
+use mathlib.Core.Bool.{Bool, false, _&&_}
 use mathlib.Core.Option.{Option, some}
 use mathlib.Core.List.{List, [], _∷_, _++_}
+use lib.Dec.{ltb}
 use lib.ListN.{length, take, drop}
+use Rattle.octets.specs.Runs.{same}
 use Rattle.skiplist.specs.Entry.{Place}
 use Rattle.skiplist.specs.Edits.{replaced, inserted}
 use Rattle.skiplist.specs.Equal.{side-discrete}
@@ -51,6 +54,17 @@ spot (read p) = p
 spot (replace p t) = p
 spot (insert p b) = p
 spot (delete p) = p
+
+-- ask 4: "Insert after p, p at least 1, is to be refused if the new tag equals the tag at p": the new tag, and the one there
+abbrev pub repeatsAt : ℕ → List ℕ → List ℕ → Bool
+repeatsAt p new there = ltb 0 p && same new there
+
+-- of a command on a row
+abbrev pub repeats : Command → List Block → Bool
+repeats (read p) bs = false
+repeats (replace p t) bs = false
+repeats (insert p b) bs = repeatsAt p (b .tag) (tagAt p bs)
+repeats (delete p) bs = false
 
 -- "Delete p, 1 to n: two proofs, first for p - 1, second for p": the position that the first proof is for
 abbrev pub firstAt : Command → ℕ

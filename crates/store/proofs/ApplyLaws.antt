@@ -5,71 +5,40 @@ use Prim.Native.Nat.{ℕ, _+_, _-_, _≤_, _<_}
 use native.Mathlib.Omega.{arith}
 use mathlib.Core.Path.{_≡_, refl, sym, ap, _∙_}
 use mathlib.Core.Logic.{_⊎_, inl, inr}
-use mathlib.Core.Bool.{Bool, true, false, cond, _||_}
-use mathlib.Core.List.{List, [], _∷_, _++_}
-use lib.Dec.{ltb}
+use mathlib.Core.Bool.{true, false}
+use mathlib.Core.List.{List, [], _∷_}
 use lib.ListN.{length, take, drop, length-append, length-drop}
 use lib.Seq.{length-take-le}
-use borrow.Author.Tests.{lt-ltb, le-ltb, ltb-false, eqb-false, not-false}
-use Rattle.refusals.specs.declared.Refusal.the-variants.{BadImage, NoRoom}
+use borrow.Author.Tests.{lt-ltb, le-ltb, ltb-false, not-false}
+use Rattle.refusals.specs.declared.Refusal.the-variants.{BadImage, NoRoom, Repeated}
 use Rattle.refusals.specs.declared.Verdict.{Verdict}
 use Rattle.refusals.specs.declared.Verdict.the-variants.{Done, Refused}
-use Rattle.refusals.specs.Order.{Rule, _when_, verdictOf, isDone, settled}
-use Rattle.refusals.proofs.OrderLaws.{done-none, done-settled, refused-settled}
-use Rattle.skiplist.specs.Limits.{mostBlocks, mostHeight}
+use Rattle.refusals.specs.Order.{verdictOf, isDone, settled}
+use Rattle.refusals.proofs.OrderLaws.{done-is, done-none, done-settled, refused-settled, verdict-then}
+use Rattle.skiplist.specs.Limits.{mostBlocks}
 use Rattle.skiplist.specs.Blocks.{Block}
-use Rattle.skiplist.specs.Commands.{retag, edited}
+use Rattle.skiplist.specs.Commands.{retag, edited, repeats}
 use Rattle.skiplist.proofs.Cases.{order, never}
 use Rattle.commands.specs.declared.Operation.{Operation}
 use Rattle.commands.specs.declared.Operation.the-variants.{Read, Replace, Insert, Delete}
 use Rattle.commands.specs.declared.Command.{Command}
 use Rattle.commands.specs.Admission.{leastOf, insertsOf, admissionRules, admittedOf}
-use Rattle.commands.specs.Meaning.{orderOf}
+use Rattle.commands.specs.Meaning.{orderOf, meaning}
+use Rattle.commands.proofs.RangeLaws.{Admitted, admitted-is}
 use Rattle.archive.specs.Form.{imageBytes}
 use Rattle.archive.specs.Reading.{countOf, blocksOf, sound}
 use Rattle.archive.specs.Writing.{rewritten}
 use Rattle.archive.proofs.SoundLaws.{sound-is}
 use Rattle.archive.proofs.RecordLaws.{length-blocks}
 use Rattle.store.specs.declared.Applied.{Applied}
-use Rattle.store.specs.Answers.{rowAfter, applyRules, applyVerdict, applyOf, imageAfter}
+use Rattle.store.specs.Answers.{rowAfter, closingRules, applyRules, applyVerdict, applyOf, imageAfter}
 use Rattle.store.specs.Passes.{refusedEdit, countAfter}
 use Rattle.store.specs.Pledges.{Applies}
-use Rattle.store.proofs.ProveLaws.{done-is}
 
--- rules after others
-verdict-then : (xs ys : List Rule) → verdictOf (xs ++ ys) ≡ settled (verdictOf xs) (verdictOf ys) (verdictOf xs)
-verdict-then [] ys = refl
-verdict-then (x ∷ xs) ys = go (x .due) (verdict-then xs ys)
-  where
-    go : (t : Bool) → verdictOf (xs ++ ys) ≡ settled (verdictOf xs) (verdictOf ys) (verdictOf xs)
-        → cond t (Refused (x .refusal)) (verdictOf (xs ++ ys))
-        ≡ settled (cond t (Refused (x .refusal)) (verdictOf xs)) (verdictOf ys)
-        (cond t (Refused (x .refusal)) (verdictOf xs))
-    go true e = refl
-    go false e = e
-
-neither : (a b : Bool) → (a || b) ≡ false → (a ≡ false) × (b ≡ false)
-neither true b e = never cc
-neither false b e = (refl, e)
-
--- ---- what an admitted command says
-pub record Admitted (k : Command) (n : ℕ) : Type 0 where
-  pub least : leastOf (k .operation) ≤ k .position
-  pub within : k .position ≤ n
-  pub low : insertsOf (k .operation) ≡ true → k .height ≤ mostHeight
-  pub space : insertsOf (k .operation) ≡ true → n ≡ mostBlocks → ⊥
-
-pub admitted-is : (k : Command) (n : ℕ) → isDone (admittedOf k n) ≡ true → Admitted k n
+-- ---- what an admission that is done says
+pub admission-is : (k : Command) (n : ℕ) (v : Verdict) → v ≡ admittedOf k n → isDone v ≡ true → Admitted k n
 unfolding admittedOf
-admitted-is k n d =
-    let e = done-none (admissionRules k n) (done-is (admittedOf k n) d) in
-    let r = neither (ltb (k .position) (leastOf (k .operation))) (ltb n (k .position)) (e .0) in
-    record {
-      least = ltb-false (k .position) (leastOf (k .operation)) (r .0);
-      within = ltb-false n (k .position) (r .1);
-      low = λ i. ltb-false mostHeight (k .height) (rw i at (e .1 .0));
-      space = λ i. eqb-false n mostBlocks (rw i at (e .1 .1 .0));
-    }
+admission-is k n v e d = admitted-is k n (sym e ∙ done-is v d)
 
 -- ---- the new count
 retag-length : (t : List ℕ) (bs : List Block) → length (retag t bs) ≡ length bs
@@ -106,28 +75,29 @@ module _ (b : List ℕ) (k : Command) where
   edit-bad-image s = rw s
 
   module _ (s : sound b ≡ true) (v : Verdict) (ev : v ≡ admittedOf k (countOf b)) where
-    pub verdict-is : applyVerdict b k
-        ≡ settled v (verdictOf ((NoRoom when ltb (length b) (imageBytes (length (rowAfter b k)))) ∷ [])) v
+    pub verdict-is : applyVerdict b k ≡ settled v (verdictOf (closingRules b k)) v
     unfolding applyVerdict admittedOf
-    verdict-is =
-        rw (s, ev)
-        (verdict-then (admissionRules k (countOf b)) ((NoRoom when ltb (length b) (imageBytes (length (rowAfter b k))))
-        ∷ []))
+    verdict-is = rw (s, ev) (verdict-then (admissionRules k (countOf b)) (closingRules b k))
 
     pub edit-not-admitted : isDone v ≡ false → refusedEdit v ≡ applyOf b k
     unfolding applyOf
     edit-not-admitted d = rw verdict-is (go v d)
       where
         go : (w : Verdict) → isDone w ≡ false
-            → refusedEdit w ≡ (let z = settled w (verdictOf ((NoRoom when ltb (length b)
-            (imageBytes (length (rowAfter b k)))) ∷ [])) w in
+            → refusedEdit w ≡ (let z = settled w (verdictOf (closingRules b k)) w in
             record { verdict = z; count = settled z (length (rowAfter b k)) 0 })
         go Done e = never cc
         go (Refused r) e = refl
 
-    module _ (d : isDone v ≡ true) (m : ℕ) (em : m ≡ countAfter (k .operation) (countOf b)) where
+    pub edit-repeated : isDone v ≡ true → repeats (meaning k) (blocksOf b) ≡ true
+        → refusedEdit (Refused Repeated) ≡ applyOf b k
+    unfolding applyOf
+    edit-repeated d e = rw (verdict-is, done-is v d, e)
+
+    module _ (d : isDone v ≡ true) (fresh : repeats (meaning k) (blocksOf b) ≡ false) (m : ℕ)
+        (em : m ≡ countAfter (k .operation) (countOf b)) where
       admission : Admitted k (countOf b)
-      admission = admitted-is k (countOf b) (rw ev at d)
+      admission = admission-is k (countOf b) v ev d
 
       pub count-is : m ≡ length (rowAfter b k)
       count-is =
@@ -142,6 +112,7 @@ module _ (b : List ℕ) (k : Command) where
       edit-no-room h = rw (
         verdict-is,
         done-is v d,
+        fresh,
         lt-ltb (length b) (imageBytes (length (rowAfter b k)))
             (rw count-is at h),
       )
@@ -153,6 +124,7 @@ module _ (b : List ℕ) (k : Command) where
           rw (
             verdict-is,
             done-is v d,
+            fresh,
             le-ltb (length b) (imageBytes (length (rowAfter b k))) (rw count-is at h),
             count-is,
           )
@@ -171,15 +143,13 @@ module _ (b : List ℕ) (k : Command) where
       let a = split (admittedOf k (countOf b)) (sym (verdict-is s (admittedOf k (countOf b)) refl) ∙ e) in
       record {
         good = s;
-        admitted = admitted-is k (countOf b) (a .0);
+        admitted = admission-is k (countOf b) (admittedOf k (countOf b)) refl (a .0);
         room = ltb-false (length b) (imageBytes (length (rowAfter b k)))
-            (done-none ((NoRoom when ltb (length b) (imageBytes (length (rowAfter b k)))) ∷ []) (a .1) .0);
+            (done-none (closingRules b k) (a .1) .1 .0);
       }
     where
-      split : (w : Verdict) → settled w (verdictOf ((NoRoom when ltb (length b) (imageBytes (length (rowAfter b k)))) ∷
-          [])) w ≡ Done
-          → (isDone w ≡ true) × (verdictOf ((NoRoom when ltb (length b) (imageBytes (length (rowAfter b k)))) ∷ [])
-          ≡ Done)
+      split : (w : Verdict) → settled w (verdictOf (closingRules b k)) w ≡ Done
+          → (isDone w ≡ true) × (verdictOf (closingRules b k) ≡ Done)
       split Done f = (refl, f)
       split (Refused r) f = never cc
 

@@ -7,6 +7,6 @@ pub mod TurnLaws
 pub mod ProofLaws
 mod CheckLaws
 pub mod ProveLaws
-mod ApplyLaws
+pub mod ApplyLaws
 pub mod Unique
 pub mod Theorems

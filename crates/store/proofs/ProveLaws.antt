@@ -2,7 +2,7 @@
 -- is written.
 -- Assumes nothing.
 use Prim.Native.Nat.{ℕ, _+_, _≤_, _<_}
-use mathlib.Core.Path.{_≡_, refl, sym, ap, _∙_}
+use mathlib.Core.Path.{_≡_, sym, ap, _∙_}
 use mathlib.Core.Bool.{true, false}
 use mathlib.Core.List.{List}
 use lib.Dec.{leb}
@@ -10,21 +10,15 @@ use lib.ListN.{length}
 use borrow.Author.Tests.{lt-ltb, le-ltb, leb-true, leb-false, ltb-false, not-false}
 use Rattle.octets.specs.Runs.{patch}
 use Rattle.refusals.specs.declared.Refusal.the-variants.{BadImage, BadPosition, TooDeep, NoRoom}
-use Rattle.refusals.specs.declared.Verdict.{Verdict}
-use Rattle.refusals.specs.declared.Verdict.the-variants.{Done, Refused}
+use Rattle.refusals.specs.declared.Verdict.the-variants.{Done}
 use Rattle.refusals.specs.Order.{isDone}
-use Rattle.refusals.proofs.OrderLaws.{done-none, done-settled, refused-settled}
-use Rattle.skiplist.proofs.Cases.{never}
+use Rattle.refusals.proofs.OrderLaws.{done-is, done-none, done-settled, refused-settled}
 use Rattle.archive.specs.Reading.{countOf, sound}
 use Rattle.proofbytes.specs.Layout.{mostEntries, proofSize}
 use Rattle.store.specs.declared.Proved.{Proved}
 use Rattle.store.specs.Answers.{entriesAt, proofAt, proveRules, proveVerdict, proveOf, bufferAfter}
 use Rattle.store.specs.Passes.{refusedProof}
 use Rattle.store.specs.Pledges.{Proves}
-
-pub done-is : (v : Verdict) → isDone v ≡ true → v ≡ Done
-done-is Done e = refl
-done-is (Refused r) e = never cc
 
 module _ (b : List ℕ) (p room at : ℕ) where
   pub image-refused : sound b ≡ false → refusedProof BadImage ≡ proveOf b p room at

@@ -3,7 +3,7 @@
 -- Assumes nothing.
 use Prim.Native.Nat.{ℕ, zero, suc, _+_, _-_, _≤_, _<_}
 use native.Mathlib.Omega.{arith}
-use mathlib.Core.Path.{_≡_, refl, ap, _∙_}
+use mathlib.Core.Path.{_≡_, refl, sym, ap, _∙_}
 use mathlib.Core.Bool.{true}
 use mathlib.Core.List.{List, _∷_}
 use lib.ListN.{length, getD}
@@ -11,13 +11,14 @@ use Rattle.skiplist.specs.Limits.{mostBlocks, mostHeight}
 use Rattle.skiplist.specs.Row.{AtMost}
 use Rattle.skiplist.specs.Sides.{sideOf}
 use Rattle.skiplist.specs.Slots.{slots}
-use Rattle.skiplist.specs.Blocks.{head, blockItem}
+use Rattle.skiplist.specs.Blocks.{head, blockItem, shown, tagAfter}
+use Rattle.skiplist.specs.Blocks as model
 use Rattle.skiplist.proofs.SlotLaws.{slots-length, slots-root}
 use Rattle.labels.specs.declared.Side.{Side}
 use Rattle.labels.specs.CodeSides.{noSide, leafOf, coded, vacant}
 use Rattle.archive.specs.declared.Layout.{Layout}
 use Rattle.archive.specs.Form.{imageBytes}
-use Rattle.archive.specs.Reading.{layoutOf, countOf, heightAt, tagAt, blockAt, blocksFrom, sound}
+use Rattle.archive.specs.Reading.{layoutOf, countOf, heightAt, tagAt, blockAt, blocksFrom, blocksOf, sound}
 use Rattle.archive.proofs.SoundLaws.{sound-is, low-at, low-run}
 use Rattle.archive.proofs.RecordLaws.{next-block, no-blocks}
 use Rattle.store.specs.Passes.{Opened, noSlotsOf, sealedOf, withColumnOf, slotsOf, itemAt, runOf, treeAt}
@@ -62,6 +63,18 @@ item-head b i e = rw e
 pub item-block : (b : List ℕ) (i : ℕ) → (i ≡ 0 → ⊥) → itemAt b i ≡ blockItem (tagAt b (i - 1))
 item-block b zero e = absurd (e refl)
 item-block b (suc i) e = let q : suc i - 1 ≡ i = omega arith in rw q
+
+-- the tag field of column p is the tag at position p of the row
+tag-after : (b : List ℕ) (i j k : ℕ) → i < k → tagAfter i (blocksFrom b j k) ≡ tagAt b (j + i)
+tag-after b i j zero h = absurd (omega (arith, h))
+tag-after b zero j (suc k) h = let z : j + 0 ≡ j = omega arith in rw (next-block b j k, z)
+tag-after b (suc i) j (suc k) h =
+    let z : j + suc i ≡ suc j + i = omega arith in
+    rw (next-block b j k, z) (tag-after b i (suc j) k (omega (arith, h)))
+
+pub tag-is : (b : List ℕ) (p : ℕ) → p ≤ countOf b → shown (itemAt b p) ≡ model.tagAt p (blocksOf b)
+tag-is b zero h = refl
+tag-is b (suc i) h = let z : 0 + i ≡ i = omega arith in sym (rw z at (tag-after b i 0 (countOf b) (omega (arith, h))))
 
 -- ---- runs
 -- one column more at the front of a run

@@ -1,29 +1,38 @@
 -- The store on the image of a row within the limits, with any spare bytes after it: check answers the row's count and
 -- root label (`check-row`), prove writes the bytes of document 01's path (`prove-row`), apply leaves the edited row's
--- image (`apply-row`).
+-- image (`apply-row`), and refuses with 14 exactly what comes again (`apply-again`).
 -- Assumes nothing.
 use Prim.Native.Nat.{ℕ, zero, suc, _+_, _-_, _≤_}
 use native.Mathlib.Omega.{arith}
-use mathlib.Core.Path.{_≡_, sym, ap, _∙_}
+use mathlib.Core.Path.{_≡_, refl, sym, ap, _∙_}
+use mathlib.Core.Logic.{_↔_}
+use mathlib.Core.Bool.{Bool, true, false, not}
 use mathlib.Core.List.{List, [], _∷_, _++_}
+use lib.Dec.{ltb}
 use lib.ListN.{length, take, drop}
-use borrow.Author.Tests.{le-ltb, ne-eqb}
+use borrow.Author.Tests.{le-ltb}
 use Rattle.octets.specs.Runs.{patch}
-use Rattle.refusals.specs.declared.Verdict.the-variants.{Done}
+use Rattle.refusals.specs.declared.Refusal.the-variants.{BadImage, NoRoom, Repeated}
+use Rattle.refusals.specs.declared.Verdict.the-variants.{Done, Refused}
+use Rattle.refusals.specs.Order.{_when_, verdictOf}
+use Rattle.refusals.proofs.OrderLaws.{done-refused, append-done, behind}
 use Rattle.sha256.specs.Hash.{sha256}
-use Rattle.skiplist.specs.Limits.{mostBlocks, mostHeight, digestBytes}
+use Rattle.skiplist.specs.Limits.{mostBlocks, digestBytes}
 use Rattle.skiplist.specs.Label.{labelled}
 use Rattle.skiplist.specs.Blocks.{Block, AllSound, WithinLimits, wayTo, metadataOf}
-use Rattle.skiplist.specs.Commands.{InRange, retag, edited}
+use Rattle.skiplist.specs.Commands.{InRange, retag, edited, repeats}
+use Rattle.skiplist.proofs.Cases.{never}
 use Rattle.skiplist.proofs.WayLaws.{metadata-count}
 use Rattle.commands.specs.declared.Metadata.{Metadata}
 use Rattle.commands.specs.declared.Operation.{Operation}
 use Rattle.commands.specs.declared.Operation.the-variants.{Read, Replace, Insert, Delete}
 use Rattle.commands.specs.declared.Command.{Command}
-use Rattle.commands.specs.Admission.{leastOf, admittedOf}
+use Rattle.commands.specs.Admission.{leastOf, admissionRules, admittedOf}
+use Rattle.commands.specs.Again.{Again}
 use Rattle.commands.specs.Meaning.{orderOf, meaning, metadataOfSide}
+use Rattle.commands.proofs.RangeLaws.{admitted-range, range-admitted, again-repeats, repeats-again, not-again}
 use Rattle.archive.specs.Form.{imageBytes, imageOf}
-use Rattle.archive.specs.Reading.{countOf, sound}
+use Rattle.archive.specs.Reading.{countOf, blocksOf, sound}
 use Rattle.archive.specs.Writing.{spareAfter}
 use Rattle.archive.proofs.ImageLaws.{image-count, image-read, image-sound}
 use Rattle.archive.proofs.EditLaws.{edited-image}
@@ -32,8 +41,8 @@ use Rattle.proofbytes.specs.Writing.{proofBytes}
 use Rattle.store.specs.declared.Checked.{Checked}
 use Rattle.store.specs.declared.Proved.{Proved}
 use Rattle.store.specs.declared.Applied.{Applied}
-use Rattle.store.specs.Answers.{checkVerdict, checkOf, pathAt, proveVerdict, proveOf, bufferAfter, applyVerdict}
-use Rattle.store.specs.Answers.{applyOf, imageAfter}
+use Rattle.store.specs.Answers.{checkVerdict, checkOf, pathAt, proveVerdict, proveOf, bufferAfter, rowAfter}
+use Rattle.store.specs.Answers.{closingRules, applyVerdict, applyOf, imageAfter}
 use Rattle.store.specs.Passes.{countAfter}
 use Rattle.store.specs.Pledges.{Checks, Proves, Applies}
 use Rattle.store.proofs.ApplyLaws.{verdict-is, edited-length}
@@ -96,24 +105,6 @@ edited-within k bs w r e =
           (few-after (k .operation) (k .position) (k .height) (k .tag) (length bs) r (w .count));
     }
 
--- a command in range is admitted
-in-range-admitted : (k : Command) (n : ℕ) → InRange (meaning k) n → admittedOf k n ≡ Done
-unfolding admittedOf
-in-range-admitted k n r = go (k .operation) r
-  where
-    go : (o : Operation) → InRange (orderOf o (k .position) (k .height) (k .tag)) n
-        → admittedOf (record { operation = o; position = k .position; height = k .height; tag = k .tag }) n ≡ Done
-    go Read q = rw (le-ltb (k .position) 1 (q .0), le-ltb n (k .position) (q .1))
-    go Replace q = rw (le-ltb (k .position) 1 (q .0), le-ltb n (k .position) (q .1))
-    go Insert q =
-        rw (
-          le-ltb (k .position) 0 (omega arith),
-          le-ltb n (k .position) (q .0),
-          le-ltb mostHeight (k .height) (q .1),
-          ne-eqb n mostBlocks (λ e. omega (arith, q .2)),
-        )
-    go Delete q = rw (le-ltb (k .position) 1 (q .0), le-ltb n (k .position) (q .1))
-
 module _ (bs : List Block) (w : WithinLimits bs) (s : List ℕ) where
   -- CHECK answers the row's count and root label
   pub check-row : (r : Checked) → Checks (imageOf bs ++ s) r
@@ -149,22 +140,52 @@ module _ (bs : List Block) (w : WithinLimits bs) (s : List ℕ) where
         c .buffer ∙ rw (v, image-read bs w s),
       )
 
+  in-range-admitted : (k : Command) → InRange (meaning k) (length bs) → Done ≡ admittedOf k (countOf (imageOf bs ++ s))
+  unfolding admittedOf
+  in-range-admitted k r =
+      rw (image-count bs w s)
+      (sym (range-admitted (k .operation) (k .position) (k .height) (k .tag) (length bs) r))
+
   -- APPLY leaves the edited row's image, and its spare bytes are as document 01 says
   pub apply-row : (k : Command) (r : Applied) (after : List ℕ) → InRange (meaning k) (length bs) → length (k .tag)
-      ≡ digestBytes
+      ≡ digestBytes → (Again bs k → ⊥)
       → imageBytes (length (edited (meaning k) bs)) ≤ length (imageOf bs ++ s) → Applies (imageOf bs ++ s) k r after
       → (r .verdict ≡ Done) × (r .count ≡ length (edited (meaning k) bs))
       × (after ≡ imageOf (edited (meaning k) bs) ++ spareAfter (length bs) (length (edited (meaning k) bs)) s)
   unfolding applyOf imageAfter
-  apply-row k r after in-range tag fits c =
+  apply-row k r after in-range tag fresh fits c =
       let b = imageOf bs ++ s in
-      let a : Done ≡ admittedOf k (countOf b) = rw (image-count bs w s)
-      (sym (in-range-admitted k (length bs) in-range)) in
       let v : applyVerdict b k ≡ Done =
-      verdict-is b k (image-sound bs w s) Done a
-      ∙ rw (image-read bs w s, le-ltb (length b) (imageBytes (length (edited (meaning k) bs))) fits) in (
+      verdict-is b k (image-sound bs w s) Done (in-range-admitted k in-range)
+      ∙ rw (image-read bs w s, not-again bs k in-range fresh, le-ltb (length b) (imageBytes (length (edited (meaning k) bs))) fits) in (
         c .verdict ∙ v,
         c .count ∙ rw (v, image-read bs w s),
         c .image ∙ rw (v, image-read bs w s) (edited-image bs (edited (meaning k) bs) s w
             (edited-within k bs w in-range tag)),
       )
+
+  -- 14 EXACTLY FOR WHAT COMES AGAIN
+  again-only : (k : Command) → applyVerdict (imageOf bs ++ s) k ≡ Refused Repeated → Again bs k
+  unfolding applyVerdict
+  again-only k e =
+      let b = imageOf bs ++ s in
+      let x = behind Repeated ((BadImage when not (sound b)) ∷ admissionRules k (countOf b)) (closingRules b k)
+      (λ q. omega (arith, q), (λ q. omega (arith, q), (λ q. omega (arith, q), (λ q. omega (arith, q), tt)))) e in
+      let a = append-done ((BadImage when not (sound b)) ∷ []) (admissionRules k (countOf b)) (x .0) .1 in
+      repeats-again bs k (admitted-range k (length bs) (w .count) (rw (image-count bs w s) at a))
+      (rw (image-read bs w s) at (repeated (repeats (meaning k) (blocksOf b))
+      (ltb (length b) (imageBytes (length (rowAfter b k)))) (x .1)))
+    where
+      repeated : (x y : Bool) → verdictOf ((Repeated when x) ∷ (NoRoom when y) ∷ []) ≡ Refused Repeated → x ≡ true
+      repeated true y f = refl
+      repeated false true f = never cc
+      repeated false false f = done-refused f
+
+  again-given : (k : Command) → Again bs k → applyVerdict (imageOf bs ++ s) k ≡ Refused Repeated
+  again-given k a =
+      let r = again-repeats bs k a in
+      verdict-is (imageOf bs ++ s) k (image-sound bs w s) Done (in-range-admitted k (r .0)) ∙ rw (image-read bs w s, r .1)
+
+  pub apply-again : (k : Command) → (applyOf (imageOf bs ++ s) k .verdict ≡ Refused Repeated) ↔ Again bs k
+  unfolding applyOf
+  apply-again k = (again-only k, again-given k)

@@ -9,7 +9,7 @@ use mathlib.Core.List.{List, [], _∷_, _++_}
 use lib.Dec.{ltb}
 use lib.ListN.{length}
 use Rattle.octets.specs.Runs.{patch}
-use Rattle.refusals.specs.declared.Refusal.the-variants.{BadImage, BadPosition, NoRoom, TooDeep}
+use Rattle.refusals.specs.declared.Refusal.the-variants.{BadImage, BadPosition, NoRoom, TooDeep, Repeated}
 use Rattle.refusals.specs.declared.Verdict.{Verdict}
 use Rattle.refusals.specs.Order.{Rule, _when_, verdictOf, settled}
 use Rattle.sha256.specs.Hash.{sha256}
@@ -17,7 +17,7 @@ use Rattle.skiplist.specs.Tree.{Tree}
 use Rattle.skiplist.specs.Entry.{Place}
 use Rattle.skiplist.specs.Label.{labelled}
 use Rattle.skiplist.specs.Blocks.{Block, wayTo, metadataOf}
-use Rattle.skiplist.specs.Commands.{edited}
+use Rattle.skiplist.specs.Commands.{edited, repeats}
 use Rattle.commands.specs.declared.Command.{Command}
 use Rattle.commands.specs.Admission.{admissionRules}
 use Rattle.commands.specs.Meaning.{noMetadata, metadataOfSide, meaning}
@@ -80,11 +80,15 @@ bufferAfter b p buffer at = settled (proveVerdict b p (length buffer) at) (patch
 abbrev pub rowAfter : List ℕ → Command → List Block
 rowAfter b k = edited (meaning k) (blocksOf b)
 
--- "Apply: 1, 2, 3, 4, 5."
+-- after the admission: ask 4's 14, "after 4 and before 5", then 5
+abbrev pub closingRules : List ℕ → Command → List Rule
+closingRules b k =
+    (Repeated when repeats (meaning k) (blocksOf b)) ∷
+    (NoRoom when ltb (length b) (imageBytes (length (rowAfter b k)))) ∷ []
+
+-- "Apply: 1, 2, 3, 4, 5", with 14 among them
 abbrev pub applyRules : List ℕ → Command → List Rule
-applyRules b k =
-    (BadImage when not (sound b)) ∷
-    (admissionRules k (countOf b) ++ ((NoRoom when ltb (length b) (imageBytes (length (rowAfter b k)))) ∷ []))
+applyRules b k = (BadImage when not (sound b)) ∷ (admissionRules k (countOf b) ++ closingRules b k)
 
 unfoldable pub applyVerdict : List ℕ → Command → Verdict
 applyVerdict b k = verdictOf (applyRules b k)

@@ -108,7 +108,7 @@ fn edit(image: &mut [u8], x: Layout, k: Command)
     }
 }
 
-// A command made on the image in its buffer: the new count, or 1, 2, 3, 4, 5.
+// A command made on the image in its buffer: the new count, or 1, 2, 3, 4, 14, 5.
 pub fn apply(image: &mut [u8], k: Command) -> Applied
     ensures { λ r. ⌜ Applies (now (image .entry)) k r (now (image .exit)) ⌝ }
 {

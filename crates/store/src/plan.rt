@@ -6,12 +6,16 @@ ghost use lib.Dec.{leb};
 ghost use lib.ListN.{length};
 ghost use Rattle.skiplist.specs.Limits.{mostBlocks};
 ghost use Rattle.skiplist.specs.Length.{downColumns};
+ghost use Rattle.skiplist.specs.Commands.{repeats as repeats_is};
 ghost use Rattle.commands.specs.Admission.{leastOf};
+ghost use Rattle.commands.specs.Meaning.{meaning};
+ghost use Rattle.archive.specs.Reading.{blocksOf};
 ghost use Rattle.store.specs.Answers.{proveOf, applyOf};
 ghost use Rattle.store.specs.Passes.{Opened, runOf, markOf, marked, risen, countAt, nearest, refusedProof};
 ghost use Rattle.store.specs.Passes.{refusedEdit, countAfter};
 use crate::Applied;
 use crate::Proved;
+use crate::runs;
 use archive::Layout;
 use commands::Command;
 use commands::Operation;
@@ -169,6 +173,24 @@ fn count_after(o: Operation, n: u64) -> u64
     }
 }
 
+// Does the command repeat the tag at its position? Insert alone can.
+fn repeats(b: &[u8], x: Layout, k: Command) -> bool
+    requires { ⌜ Opened (now b) x × (k .position ≤ x .count) ⌝ }
+    ensures { λ r. ⌜ r ≡ repeats_is (meaning k) (blocksOf (now (b .entry))) ⌝ }
+{
+    let o = k.operation;
+    let tag = k.tag;
+    match o {
+        Operation::Read => false,
+        Operation::Replace => false,
+        Operation::Insert => {
+            let p = k.position;
+            commands::repeated(p, tag, runs::tag(b, x, p as usize))
+        }
+        Operation::Delete => false,
+    }
+}
+
 fn refused_edit(v: Verdict) -> Applied
     ensures { λ t. ⌜ t ≡ refusedEdit v ⌝ }
 {
@@ -178,7 +200,7 @@ fn refused_edit(v: Verdict) -> Applied
     }
 }
 
-// What Apply answers: "Apply: 1, 2, 3, 4, 5."
+// What Apply answers: 1, 2, 3, 4, 14, 5.
 pub fn edit(b: &[u8], k: Command) -> Applied
     ensures { λ r. ⌜ r ≡ applyOf (now (b .entry)) k ⌝ }
 {
@@ -187,6 +209,9 @@ pub fn edit(b: &[u8], k: Command) -> Applied
         let n = x.count as u64;
         let v = commands::admitted(k, n);
         if refusals::is_done(v) {
+            if repeats(b, x, k) {
+                return refused_edit(Verdict::Refused(Refusal::Repeated));
+            }
             let o = k.operation;
             let m = count_after(o, n);
             if b.len() < archive::place(x, m as usize) {

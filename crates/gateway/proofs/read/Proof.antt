@@ -1,6 +1,7 @@
 -- Read: the tag, and the metadata as it was.
 -- Assumes nothing.
 use mathlib.Core.Path.{refl, _∙_}
+use mathlib.Core.List.{[]}
 use Rattle.proofbytes.proofs.FormLaws.{form-sized}
 use Rattle.gateway.proofs.Screens.{fine-passed}
 use Rattle.gateway.proofs.Answers.{one-refused, one-fine, one-done}
@@ -25,7 +26,7 @@ shown-requires c κs =
     let v = c .before .before in
     let a = v .before .before .args in
     form-sized (a .s .now) (fine-passed (a .s .now) (a .p) (a .m)
-    (one-fine (a .m) (a .p) (a .s .now) (a .m) (v .first-verdict .ensures) (c .enum-told .given .1)) .formed)
+    (one-fine (a .m) (a .p) (a .s .now) (v .first-verdict .ensures) (c .enum-told .given .1)) .formed)
 
 accepted-requires : tie.Need-accepted-requires
 accepted-requires c κs = search needs
@@ -35,7 +36,7 @@ returns c =
     let k = c .before .before in
     let v = k .before .before in
     let a = v .before .before .args in
-    c .refused .ensures ∙ one-refused (a .m) (a .p) (a .s .now) (a .m) (v .first-verdict .ensures) (k .v .given .1)
+    c .refused .ensures ∙ one-refused (a .m) (a .p) (a .s .now) (v .first-verdict .ensures) [] (a .m) (k .v .given .1)
 
 returns-2 : tie.Need-returns-2
 returns-2 c =
@@ -43,8 +44,8 @@ returns-2 c =
     let k = h .before in
     let v = k .before .before in
     let a = v .before .before .args in
-    c .accepted .ensures ∙ one-done (a .m) (a .p) (a .s .now) (a .m) (v .first-verdict .ensures)
-    (k .enum-told .given .1) (h .shown .ensures) refl
+    c .accepted .ensures ∙ one-done (a .m) (a .p) (a .s .now) (v .first-verdict .ensures) [] (a .m)
+    (k .enum-told .given .1) refl (h .shown .ensures) refl
 
 pub read-spec : {M : Type 1} → statement M
 read-spec =

@@ -1,7 +1,8 @@
 -- The command's own prediction where the proof passed.
 -- Assumes nothing.
 use native.Mathlib.Omega.{arith}
-use mathlib.Core.Path.{_∙_}
+use mathlib.Core.Path.{refl, _∙_}
+use mathlib.Core.List.{[]}
 use Rattle.proofbytes.proofs.FormLaws.{form-sized}
 use Rattle.gateway.specs.Gateway.{replacedOf}
 use Rattle.gateway.proofs.Screens.{fine-passed}
@@ -30,8 +31,7 @@ replace-requires c κs =
     let k = c .before in
     let v = k .before .before in
     let a = v .before .before .args in
-    let g = fine-passed (a .s .now) (a .p) (a .m) (one-fine (a .m) (a .p) (a .s .now)
-    (replacedOf (a .tag) (a .s .now)) (v .first-verdict .ensures) (k .enum-told .given .1)) in
+    let g = fine-passed (a .s .now) (a .p) (a .m) (one-fine (a .m) (a .p) (a .s .now) (v .first-verdict .ensures) (k .enum-told .given .1)) in
     let s = form-sized (a .s .now) (g .formed) in
     omega (arith, s .long, c .entry-count .ensures)
 
@@ -41,7 +41,7 @@ shown-requires c κs =
     let v = k .before .before in
     let a = v .before .before .args in
     form-sized (a .s .now) (fine-passed (a .s .now) (a .p) (a .m)
-    (one-fine (a .m) (a .p) (a .s .now) (replacedOf (a .tag) (a .s .now)) (v .first-verdict .ensures)
+    (one-fine (a .m) (a .p) (a .s .now) (v .first-verdict .ensures)
     (k .enum-told .given .1)) .formed)
 
 metadata-of-requires : tie.Need-metadata-of-requires
@@ -55,8 +55,8 @@ returns c =
     let k = c .before .before in
     let v = k .before .before in
     let a = v .before .before .args in
-    c .refused .ensures ∙ one-refused (a .m) (a .p) (a .s .now) (replacedOf (a .tag) (a .s .now))
-    (v .first-verdict .ensures) (k .v .given .1)
+    c .refused .ensures ∙ one-refused (a .m) (a .p) (a .s .now) (v .first-verdict .ensures) []
+    (replacedOf (a .tag) (a .s .now)) (k .v .given .1)
 
 returns-2 : tie.Need-returns-2
 returns-2 c =
@@ -67,10 +67,9 @@ returns-2 c =
     let v = k .before .before in
     let z = v .before .before in
     let a = z .args in
-    let g = fine-passed (a .s .now) (a .p) (a .m) (one-fine (a .m) (a .p) (a .s .now)
-    (replacedOf (a .tag) (a .s .now)) (v .first-verdict .ensures) (k .enum-told .given .1)) in
-    c .accepted .ensures ∙ one-done (a .m) (a .p) (a .s .now) (replacedOf (a .tag) (a .s .now))
-    (v .first-verdict .ensures) (k .enum-told .given .1) (h .shown .ensures)
+    let g = fine-passed (a .s .now) (a .p) (a .m) (one-fine (a .m) (a .p) (a .s .now) (v .first-verdict .ensures) (k .enum-told .given .1)) in
+    c .accepted .ensures ∙ one-done (a .m) (a .p) (a .s .now) (v .first-verdict .ensures) []
+    (replacedOf (a .tag) (a .s .now)) (k .enum-told .given .1) refl (h .shown .ensures)
     (replace-new (a .s .now) (a .m) (z .pre) g (a .tag) (x .before .entry-count .ensures) (x .replace .ensures)
     (n .metadata-of .ensures))
 
