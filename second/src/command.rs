@@ -1,4 +1,5 @@
-//! Document 01, "Commands": the four commands and their ranges.
+//! Document 01, "Commands": the four commands and their ranges; and what
+//! document 02's ask 4 calls repeated.
 
 use crate::block::GREATEST_HEIGHT;
 use crate::metadata::MOST_BLOCKS;
@@ -48,5 +49,10 @@ impl Command {
             return Err(Refusal::Full);
         }
         Ok(())
+    }
+
+    /// Insert after p, p at least 1, of the tag that stands at p.
+    pub fn repeats(&self, at_p: &Digest) -> bool {
+        self.operation == Operation::Insert && self.p >= 1 && self.tag == *at_p
     }
 }

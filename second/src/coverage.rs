@@ -23,13 +23,13 @@ const REQUIRED: [(&str, &str); 18] = [
     ("prove", "done, 1, 2, 5, 6"),
     ("apply Read", "done, 1, 2"),
     ("apply Replace", "done, 1, 2"),
-    ("apply Insert", "done, 1, 2, 3, 4, 5"),
+    ("apply Insert", "done, 1, 2, 3, 4, 5, 14"),
     ("apply Delete", "done, 1, 2"),
     ("gateway Read", "done, 2, 7 first, 8 first, 9 first, 12"),
     ("gateway Replace", "done, 2, 7 first, 8 first, 9 first, 12"),
     (
         "gateway Insert",
-        "done, 2, 3, 4, 7 first, 8 first, 9 first, 12",
+        "done, 2, 3, 4, 7 first, 8 first, 9 first, 12, 14",
     ),
     (
         "gateway Delete",
@@ -44,7 +44,7 @@ const REQUIRED: [(&str, &str); 18] = [
 ];
 
 /// What must come up where the metadata is held by no archive.
-const REQUIRED_BY_FAMILY: [(&str, &str, &str); 6] = [
+const REQUIRED_BY_FAMILY: [(&str, &str, &str); 7] = [
     ("forged", "gateway Read", "done, 8 first, 9 first"),
     ("forged", "gateway Replace", "done, 8 first, 9 first"),
     ("forged", "gateway Insert", "done, 4, 8 first, 9 first, 12"),
@@ -54,6 +54,11 @@ const REQUIRED_BY_FAMILY: [(&str, &str, &str); 6] = [
         "done, 8 first, 9 second, 10",
     ),
     ("rules", "gateway Delete", "7 first, 7 second"),
+    (
+        "repeated forged",
+        "gateway Insert",
+        "done, 4, 7 first, 8 first, 9 first, 12, 14",
+    ),
     (
         "joint forged",
         "check joint",

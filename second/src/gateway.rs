@@ -7,7 +7,7 @@ use crate::proof::{self, Entry, Proof};
 use crate::refusal::{Refusal, Which};
 use crate::sha256::Digest;
 use crate::tree::{self, Side};
-use crate::wrong::{wrong, Wrong};
+use crate::wrong::{self, wrong, Wrong};
 
 /// The tag at p before the edit and the metadata after it.
 #[derive(Clone, Copy, Debug, PartialEq, Eq)]
@@ -16,8 +16,9 @@ pub struct Accepted {
     pub metadata: Metadata,
 }
 
-/// Order: 12, 2, 3, 4, then 7, 8, 9 on the first proof, the same on the
-/// second, then 10. Only Delete looks at the second proof.
+/// Order: 12, 2, 3, 4, then 7, 8, 9 on the first proof, then 14; the same three
+/// on the second, then 10. Only Insert is refused with 14, and only Delete looks
+/// at the second proof.
 pub fn check(
     held: &Metadata,
     command: &Command,
@@ -33,6 +34,9 @@ pub fn check(
     }
     let proof = examine(held, command.p, first, Which::First)?;
     let tag = proof.stop.tag;
+    if wrong::sent_again(command, &proof, command.repeats(&tag)) {
+        return Err(Refusal::Repeated);
+    }
     let metadata = match command.operation {
         Operation::Replace => after(replace(&proof, &command.tag)),
         Operation::Insert => after(insert(&proof, command.height, &command.tag)),

@@ -1,7 +1,7 @@
 //! A second program of the calls that document 01 fixes, with document 02's
-//! asks 1 and 3, written plainly from these documents and FIPS 180-4, and a comparer
-//! that puts the same calls to another program and compares every answer byte
-//! for byte.
+//! asks 1, 3 and 4, written plainly from these documents and FIPS 180-4, and a
+//! comparer that puts the same calls to another program and compares every answer
+//! byte for byte.
 
 pub mod answers;
 pub mod block;

@@ -24,10 +24,11 @@ pub enum Refusal {
     LongMessage,
     BadMetadata,
     BadSet,
+    Repeated,
 }
 
 impl Refusal {
-    /// The number in document 01's table; 13 is document 02's.
+    /// The number in document 01's table; 13 and 14 are document 02's.
     pub fn number(self) -> u8 {
         match self {
             Refusal::BadImage => 1,
@@ -43,6 +44,7 @@ impl Refusal {
             Refusal::LongMessage => 11,
             Refusal::BadMetadata => 12,
             Refusal::BadSet => 13,
+            Refusal::Repeated => 14,
         }
     }
 

@@ -6,8 +6,9 @@ use crate::joint;
 use crate::metadata::Metadata;
 use crate::proof::{Proof, MOST_ENTRIES};
 use crate::refusal::Refusal;
+use crate::sha256::Digest;
 use crate::tree::{self, Column};
-use crate::wrong::{wrong, Wrong};
+use crate::wrong::{self, wrong, Wrong};
 
 /// Checks an image and answers its metadata.
 pub fn check(buffer: &[u8]) -> Result<Metadata, Refusal> {
@@ -78,10 +79,14 @@ pub fn prove_joint(
 }
 
 /// Applies a command to the image and answers the new count.
-/// Order: 1, 2, 3, 4, 5.
+/// Order: 1, 2, 3, 4, 14, 5.
 pub fn apply(buffer: &mut [u8], command: &Command) -> Result<u32, Refusal> {
     let blocks = image::read(buffer)?;
     command.allowed(blocks.len() as u32)?;
+    let repeats = command.repeats(&tag_at(&blocks, command.p));
+    if wrong::filed_again(command, &blocks, repeats) {
+        return Err(Refusal::Repeated);
+    }
     let edited = edit(&blocks, command);
     let after = image::write(&edited);
     if after.len() > buffer.len() {
@@ -102,6 +107,12 @@ fn clear_given_up(buffer: &mut [u8], end: usize) {
     }
     let to = buffer.len().min(from + image::RECORD);
     buffer[from..to].fill(0);
+}
+
+/// The tag at p, 1 to n; 32 zero bytes elsewhere.
+pub fn tag_at(blocks: &[Column], p: u32) -> Digest {
+    let block = (p as usize).checked_sub(1).and_then(|at| blocks.get(at));
+    block.and_then(|block| block.tag).unwrap_or_default()
 }
 
 /// The edited row. The command is in range.

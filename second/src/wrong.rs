@@ -2,6 +2,9 @@
 //! Nothing here is in force unless `answers --wrong NAME` names it.
 
 mod joint;
+mod repeated;
+
+pub use repeated::{filed_again, sent_again};
 
 use std::sync::atomic::{AtomicBool, AtomicUsize, Ordering};
 
@@ -108,9 +111,53 @@ pub enum Wrong {
     PartlyWritten,
     /// A joint proof is answered with a k.
     JointAnswersK,
+    /// Apply files a repeated block.
+    RepeatFiled,
+    /// The gateway takes a repeated block.
+    RepeatPredicted,
+    /// 14 is given at position 0 too, for a zero tag.
+    RepeatAtHead,
+    /// 14 is given for Replace too.
+    RepeatReplaced,
+    /// 14 compares the first 31 bytes.
+    LastByteUnseen,
+    /// A zero tag is taken as none and never repeated.
+    ZeroIsNone,
+    /// Apply compares the tag at p + 1.
+    RepeatOfNext,
+    /// Apply compares the tag at p - 1.
+    RepeatOfBefore,
+    /// Apply refuses the tag of any block.
+    RepeatAnywhere,
+    /// Apply compares height and tag, as they are recorded.
+    RepeatWithHeight,
+    /// Apply refuses every edit that leaves equal tags side by side.
+    EqualNeighbours,
+    /// The gateway compares the tag of a leaf passed last.
+    RepeatOfPassed,
+    /// 14 comes before 3.
+    RepeatBeforeHeight,
+    /// 14 comes before 4.
+    RepeatBeforeFull,
+    /// 14 comes before 7.
+    RepeatBeforeForm,
+    /// 14 comes before 8.
+    RepeatBeforePosition,
+    /// 14 comes before 9.
+    RepeatBeforeLabel,
+    /// In Apply 14 comes after 5.
+    RepeatAfterRoom,
+    /// 14 names the first proof.
+    RepeatNamesFirst,
+    /// 14 comes with the tag at p.
+    RepeatTellsTag,
+    /// A repeat is answered as done, and nothing is filed.
+    RepeatIsDone,
+    /// Apply changes a lent byte where it refuses a repeat.
+    RepeatTouches,
 }
 
-pub const WRONGS: [(&str, Wrong); 47] = [
+pub const WRONGS: [(&str, Wrong); 69] = [
     ("last-tallest", Wrong::LastTallest),
     ("empty-zeros", Wrong::EmptyZeros),
     ("head-zeros", Wrong::HeadZeros),
@@ -158,6 +205,28 @@ pub const WRONGS: [(&str, Wrong); 47] = [
     ("joint-room-first", Wrong::JointRoomFirst),
     ("partly-written", Wrong::PartlyWritten),
     ("joint-answers-k", Wrong::JointAnswersK),
+    ("repeat-filed", Wrong::RepeatFiled),
+    ("repeat-predicted", Wrong::RepeatPredicted),
+    ("repeat-at-head", Wrong::RepeatAtHead),
+    ("repeat-replaced", Wrong::RepeatReplaced),
+    ("last-byte-unseen", Wrong::LastByteUnseen),
+    ("zero-is-none", Wrong::ZeroIsNone),
+    ("repeat-of-next", Wrong::RepeatOfNext),
+    ("repeat-of-before", Wrong::RepeatOfBefore),
+    ("repeat-anywhere", Wrong::RepeatAnywhere),
+    ("repeat-with-height", Wrong::RepeatWithHeight),
+    ("equal-neighbours", Wrong::EqualNeighbours),
+    ("repeat-of-passed", Wrong::RepeatOfPassed),
+    ("repeat-before-height", Wrong::RepeatBeforeHeight),
+    ("repeat-before-full", Wrong::RepeatBeforeFull),
+    ("repeat-before-form", Wrong::RepeatBeforeForm),
+    ("repeat-before-position", Wrong::RepeatBeforePosition),
+    ("repeat-before-label", Wrong::RepeatBeforeLabel),
+    ("repeat-after-room", Wrong::RepeatAfterRoom),
+    ("repeat-names-first", Wrong::RepeatNamesFirst),
+    ("repeat-tells-tag", Wrong::RepeatTellsTag),
+    ("repeat-is-done", Wrong::RepeatIsDone),
+    ("repeat-touches", Wrong::RepeatTouches),
 ];
 
 /// The place in `WRONGS` of the wrong in force, from 1 on; 0 for none.
@@ -264,7 +333,7 @@ pub fn answer(request: &Request, answer: Answer) -> Answer {
         Some(Wrong::Nods) => nods(request, answer),
         Some(Wrong::RefusesAll) => refuses_all(request, answer),
         Some(Wrong::ShortMessages) => short_messages(request, answer),
-        Some(wrong) => joint::answer(wrong, request, answer),
+        Some(wrong) => repeated::answer(wrong, request, joint::answer(wrong, request, answer)),
         None => answer,
     }
 }

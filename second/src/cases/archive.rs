@@ -82,7 +82,12 @@ impl Archive {
         proof.write()
     }
 
-    /// Insert and Replace, if they are in range, on this row.
+    /// The tag at p, or at n where p is past it; 32 zero bytes at the head.
+    pub fn tag(&self, p: u32) -> Digest {
+        store::tag_at(&self.blocks, p.min(self.n()))
+    }
+
+    /// The command on this row, if it is in range.
     pub fn edited(&self, command: &Command) -> Archive {
         match command.allowed(self.n()) {
             Ok(()) => Archive::new(store::edit(&self.blocks, command)),
@@ -141,6 +146,17 @@ pub fn command(operation: Operation, p: u32, height: u8, tag: Digest) -> Command
         p,
         height,
         tag,
+    }
+}
+
+/// A command with one proof, whatever the proof is.
+pub fn with_proof(held: Metadata, command: Command, first: Vec<u8>) -> Request {
+    let second = Vec::new();
+    Request::Gateway {
+        held,
+        command,
+        first,
+        second,
     }
 }
 

@@ -127,19 +127,29 @@ fn room_for_image(deck: &mut Deck) {
     }
 }
 
-/// A tag of 32 zero bytes with own 1 is an ordinary tag.
+/// A tag of 32 zero bytes with own 1 is an ordinary tag: rows of it alone, and
+/// with another tag between two of it, so that each is inserted after the other.
 fn zero_tags(deck: &mut Deck) {
-    for heights in [vec![0; 3], vec![1; 3], vec![2, 0, 1]] {
-        let blocks = heights.iter().map(|h| column(*h, [0; 32]));
-        let row = Archive::new(blocks.collect());
-        for p in 0..=row.n() {
-            deck.put("zero tags", row.prove(p, 0, 400));
-            for operation in OPERATIONS {
-                for height in 0..=3 {
-                    let command = command(operation, p, height, [0; 32]);
-                    deck.put("zero tags", row.apply(command, 33));
-                    deck.put("zero tags", row.gateway(command));
-                }
+    for heights in [[0; 3], [1; 3], [2, 0, 1]] {
+        for middle in [[0; 32], [1; 32]] {
+            let both = heights.iter().zip([[0; 32], middle, [0; 32]]);
+            let blocks = both.map(|(h, tag)| column(*h, tag));
+            let row = Archive::new(blocks.collect());
+            for p in 0..=row.n() {
+                deck.put("zero tags", row.prove(p, 0, 400));
+                zero_tag_calls(&row, p, deck);
+            }
+        }
+    }
+}
+
+fn zero_tag_calls(row: &Archive, p: u32, deck: &mut Deck) {
+    for operation in OPERATIONS {
+        for height in 0..=3 {
+            for tag in [[0; 32], [1; 32]] {
+                let command = command(operation, p, height, tag);
+                deck.put("zero tags", row.apply(command, 33));
+                deck.put("zero tags", row.gateway(command));
             }
         }
     }

@@ -1,11 +1,10 @@
 //! Well-formed proofs of no archive, with the metadata that belongs to them.
 
-use super::archive::command;
+use super::archive::{command, with_proof};
 use super::proofs::one_proof;
 use super::raw::{self, RawEntry, RawProof};
 use super::Deck;
 use crate::command::{Operation, OPERATIONS};
-use crate::frames::Request;
 use crate::metadata::Metadata;
 use crate::random::Random;
 use crate::tree::Side;
@@ -155,19 +154,20 @@ fn accepted(proof: &RawProof, random: &mut Random, deck: &mut Deck) {
             false => proof.entries[random.index(proof.entries.len())].level,
         };
         let command = command(Operation::Insert, p, height, random.digest());
-        let (first, second) = (proof.write(), Vec::new());
-        let request = Request::Gateway {
-            held,
-            command,
-            first,
-            second,
-        };
-        deck.put(FAMILY, request);
+        deck.put(FAMILY, with_proof(held, command, proof.write()));
+    }
+}
+
+fn nearly(proof: &RawProof, random: &mut Random, deck: &mut Deck) {
+    let (held, p, proof) = one_off(proof, random);
+    let operation = random.pick(&OPERATIONS);
+    for first in [proof.write(), random_proof(random, false).write()] {
+        deck.put(FAMILY, one_proof(operation, p, held, first));
     }
 }
 
 /// One thing off: position, own, count, label, or an entry.
-fn nearly(proof: &RawProof, random: &mut Random, deck: &mut Deck) {
+pub fn one_off(proof: &RawProof, random: &mut Random) -> (Metadata, u32, RawProof) {
     let (mut held, mut p) = (proof.metadata(), proof.position());
     let mut proof = proof.clone();
     match random.below(7) {
@@ -186,10 +186,7 @@ fn nearly(proof: &RawProof, random: &mut Random, deck: &mut Deck) {
             proof.entries = proved.entries;
         }
     }
-    let operation = random.pick(&OPERATIONS);
-    for first in [proof.write(), random_proof(random, false).write()] {
-        deck.put(FAMILY, one_proof(operation, p, held, first));
-    }
+    (held, p, proof)
 }
 
 /// Sixteen ranks of 4,096 are 0 in 16 bits; a program must not sum in them.
@@ -234,12 +231,7 @@ fn nothing_held(random: &mut Random, deck: &mut Deck) {
         let proof = RawProof { entries, stop };
         for height in [0, 1, 2, 7, 15] {
             let command = command(Operation::Insert, 0, height, random.digest());
-            let request = Request::Gateway {
-                held: proof.metadata(),
-                command,
-                first: proof.write(),
-                second: Vec::new(),
-            };
+            let request = with_proof(proof.metadata(), command, proof.write());
             deck.put(FAMILY, request);
         }
     }

@@ -154,7 +154,7 @@ pub fn five_and_edits() -> [Archive; 5] {
     [five, with_x, without_b, without_a, empty]
 }
 
-/// Every command at every position and beyond.
+/// Every command at every position and beyond, with a tag that stands nowhere.
 fn row_of_five(deck: &mut Deck) {
     for row in five_and_edits() {
         every_command(&row, deck);
@@ -167,7 +167,7 @@ fn every_command(row: &Archive, deck: &mut Deck) {
         deck.put("row of five", row.prove(p, 3, 300));
         for operation in OPERATIONS {
             for height in 0..=17 {
-                let command = command(operation, p, height, digest(b"X"));
+                let command = command(operation, p, height, digest(b"Y"));
                 deck.put("row of five", row.apply(command, 40));
                 deck.put("row of five", row.gateway(command));
             }

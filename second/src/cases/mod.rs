@@ -10,6 +10,7 @@ pub mod order;
 pub mod pairs;
 pub mod proofs;
 pub mod raw;
+pub mod repeated;
 pub mod rows;
 pub mod streams;
 pub mod tags;
@@ -69,8 +70,9 @@ impl<'a> Deck<'a> {
 
 /// The families. Down to the short rows they are the same for every seed and
 /// hold all that the coverage table asks for; then they are random.
-const FAMILIES: [fn(&Plan, &mut Deck); 26] = [
+const FAMILIES: [fn(&Plan, &mut Deck); 29] = [
     |_, deck| known::deal(deck),
+    |_, deck| repeated::deal(deck),
     |_, deck| joint::order::deal(deck),
     |_, deck| joint::form::deal(deck),
     |_, deck| tags::deal(deck),
@@ -93,6 +95,8 @@ const FAMILIES: [fn(&Plan, &mut Deck); 26] = [
     |plan, deck| forged::random(plan.seed, plan.cases / 4, deck),
     |plan, deck| pairs::random(plan.seed, plan.cases / 8, deck),
     |plan, deck| tags::random(plan.seed, plan.cases / 16, deck),
+    |plan, deck| repeated::random_rows(plan.seed, plan.cases / 16, deck),
+    |plan, deck| repeated::forged(plan.seed, plan.cases / 16, deck),
     |plan, deck| joint::honest::random(plan.seed, plan.cases / 16, deck),
     |plan, deck| joint::forged::random(plan.seed, plan.cases / 32, deck),
     |plan, deck| joint::lies::random(plan.seed, plan.cases / 8, deck),

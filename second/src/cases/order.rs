@@ -1,21 +1,29 @@
 //! Several reasons to refuse at once: which one is given.
 
-use super::archive::{command, five, flat, numbered, Archive};
-use super::raw::RawProof;
+use super::archive::{command, five, flat, numbered, with_proof, Archive};
+use super::raw::{stop_tag, RawProof};
 use super::Deck;
 use crate::command::{Operation, OPERATIONS};
 use crate::frames::Request;
 use crate::metadata::Metadata;
+use crate::sha256::Digest;
 
 const FAMILY: &str = "order";
 
 pub fn deal(deck: &mut Deck) {
     prove(deck);
-    apply(deck);
-    apply_full(deck);
-    gateway(deck);
-    gateway_full(deck);
+    let fresh = |_| [7; 32];
+    edits(FAMILY, fresh, deck);
     gateway_two_proofs(deck);
+}
+
+/// Commands of which `new` makes the tag from the one at p; at the gateway, from
+/// the one in the stop of the proof that is sent.
+pub fn edits(family: &'static str, new: fn(Digest) -> Digest, deck: &mut Deck) {
+    apply(family, new, deck);
+    apply_full(family, new, deck);
+    gateway(family, new, deck);
+    gateway_full(family, new, deck);
 }
 
 /// The image with one reason for 1.
@@ -44,16 +52,16 @@ fn prove(deck: &mut Deck) {
     }
 }
 
-/// Apply: 1, 2, 3, 4, 5.
-fn apply(deck: &mut Deck) {
+/// Apply: 1, 2, 3, 4, 14, 5.
+fn apply(family: &'static str, new: fn(Digest) -> Digest, deck: &mut Deck) {
     for row in [five(), flat(0), flat(1)] {
         for image in [row.image(), row.image_and(33), broken(row.image())] {
             for operation in OPERATIONS {
                 for p in [0, 1, row.n(), row.n() + 1, 65_536, 1 << 31, u32::MAX] {
                     for height in [0, 15, 16, 255] {
-                        let command = command(operation, p, height, [7; 32]);
+                        let command = command(operation, p, height, new(row.tag(p)));
                         let image = image.clone();
-                        deck.put(FAMILY, Request::Apply { command, image });
+                        deck.put(family, Request::Apply { command, image });
                     }
                 }
             }
@@ -62,14 +70,14 @@ fn apply(deck: &mut Deck) {
 }
 
 /// The same where the archive is full, with and without room.
-fn apply_full(deck: &mut Deck) {
+fn apply_full(family: &'static str, new: fn(Digest) -> Digest, deck: &mut Deck) {
     let row = Archive::new(numbered((0..4096).map(|i| (i % 3) as u8)));
     for image in [row.image(), row.image_and(33), broken(row.image())] {
         for p in [0, 4096, 4097] {
             for height in [15, 16] {
-                let command = command(Operation::Insert, p, height, [7; 32]);
+                let command = command(Operation::Insert, p, height, new(row.tag(p)));
                 let image = image.clone();
-                deck.put(FAMILY, Request::Apply { command, image });
+                deck.put(family, Request::Apply { command, image });
             }
         }
     }
@@ -94,8 +102,8 @@ fn lies(row: &Archive, p: u32) -> Vec<Vec<u8>> {
     all
 }
 
-/// Gateway: 12, 2, 3, 4, then 7, 8, 9.
-fn gateway(deck: &mut Deck) {
+/// Gateway: 12, 2, 3, 4, then 7, 8, 9, then 14.
+fn gateway(family: &'static str, new: fn(Digest) -> Digest, deck: &mut Deck) {
     let row = five();
     let given = row.metadata();
     let over = Metadata {
@@ -107,7 +115,7 @@ fn gateway(deck: &mut Deck) {
         for p in [0, 3, 5, 6, u32::MAX] {
             for first in lies(&row, p.min(5)) {
                 for (operation, height) in with_heights() {
-                    let command = command(operation, p, height, [7; 32]);
+                    let command = command(operation, p, height, new(stop_tag(&first)));
                     let (first, second) = (first.clone(), vec![0; 3]);
                     let request = Request::Gateway {
                         held,
@@ -115,7 +123,7 @@ fn gateway(deck: &mut Deck) {
                         first,
                         second,
                     };
-                    deck.put(FAMILY, request);
+                    deck.put(family, request);
                 }
             }
         }
@@ -135,7 +143,7 @@ fn with_heights() -> [(Operation, u8); 7] {
 }
 
 /// At 4,096 blocks: Insert after 4,097 is 2, height 16 is 3, else 4.
-fn gateway_full(deck: &mut Deck) {
+fn gateway_full(family: &'static str, new: fn(Digest) -> Digest, deck: &mut Deck) {
     let row = Archive::new(numbered((0..4096).map(|i| (i % 16) as u8)));
     for count in [4096, 4097, u32::MAX] {
         let held = Metadata {
@@ -145,15 +153,9 @@ fn gateway_full(deck: &mut Deck) {
         for p in [0, 17, 4096, 4097] {
             for first in [row.proof(p), row.proof(p / 2), vec![5; 77]] {
                 for height in [0, 15, 16, 17] {
-                    let command = command(Operation::Insert, p, height, [7; 32]);
-                    let (first, second) = (first.clone(), Vec::new());
-                    let request = Request::Gateway {
-                        held,
-                        command,
-                        first,
-                        second,
-                    };
-                    deck.put(FAMILY, request);
+                    let tag = new(stop_tag(&first));
+                    let command = command(Operation::Insert, p, height, tag);
+                    deck.put(family, with_proof(held, command, first.clone()));
                 }
             }
         }

@@ -1,7 +1,7 @@
 //! Proofs that are not quite the honest ones: against the honest metadata, and
 //! against the metadata that a gateway without the rules would work out.
 
-use super::archive::{command, five, small_row, Archive};
+use super::archive::{command, five, small_row, with_proof, Archive};
 use super::raw::{RawEntry, RawProof};
 use super::Deck;
 use crate::command::{Operation, OPERATIONS};
@@ -15,14 +15,7 @@ const ONE_PROOF: [Operation; 3] = [Operation::Read, Operation::Replace, Operatio
 /// A one-proof command with this metadata and proof.
 pub fn one_proof(operation: Operation, p: u32, held: Metadata, first: Vec<u8>) -> Request {
     let height = (p % 4) as u8;
-    let command = command(operation, p, height, [0x77; 32]);
-    let second = Vec::new();
-    Request::Gateway {
-        held,
-        command,
-        first,
-        second,
-    }
+    with_proof(held, command(operation, p, height, [0x77; 32]), first)
 }
 
 /// Delete with this metadata and these proofs.

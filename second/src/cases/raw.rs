@@ -76,6 +76,12 @@ pub fn stop(own: u32, tag: Digest, right: Side) -> RawStop {
     }
 }
 
+/// What stands where the stop has its tag; zeros where there is no stop.
+pub fn stop_tag(proof: &[u8]) -> Digest {
+    let stop = proof.len().checked_sub(STOP);
+    stop.map_or([0; 32], |at| bytes::digest(&proof[at + 6..at + 38]))
+}
+
 /// A tag or a missing one, as it is hashed.
 fn third(own: u32, tag: &Digest) -> &[u8] {
     match own {

@@ -2,7 +2,7 @@
 
 use super::archive::{column, command, random_row, Archive, DRAWS};
 use super::Deck;
-use crate::command::{Operation, OPERATIONS};
+use crate::command::{Command, Operation, OPERATIONS};
 use crate::random::Random;
 use crate::sha256::digest;
 use crate::tree::Column;
@@ -56,7 +56,7 @@ fn short_row_calls(row: &Archive, number: u32, deck: &mut Deck) {
 }
 
 /// How many blocks a random row has: mostly few, now and then thousands.
-fn random_length(random: &mut Random) -> usize {
+pub fn random_length(random: &mut Random) -> usize {
     match random.below(200) {
         0 => random.from_to(300, 4096) as usize,
         1..=19 => random.from_to(40, 300) as usize,
@@ -106,7 +106,7 @@ fn random_calls(row: &Archive, random: &mut Random, deck: &mut Deck) {
 }
 
 /// A command with a height of up to 15, now and then above.
-fn random_command(random: &mut Random, operation: Operation, n: u32) -> crate::command::Command {
+pub fn random_command(random: &mut Random, operation: Operation, n: u32) -> Command {
     let height = match random.one_in(24) {
         true => random.below(256) as u8,
         false => random.below(16) as u8,
