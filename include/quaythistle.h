@@ -69,7 +69,10 @@ enum {
     QT_NOT_NEIGHBOURS = 10, /* Delete's proofs do not meet */
     QT_LONG_MESSAGE = 11,   /* over 4,096 bytes to digest; so for a block, readings over 4,089 bytes */
     QT_BAD_METADATA = 12,   /* count over 4,096, or saved bytes not of the stated form */
-    QT_BAD_SET = 13         /* positions of a joint proof: none, over 32, or one not above the one before */
+    QT_BAD_SET = 13,        /* positions of a joint proof: none, over 32, or one not above the one before */
+    QT_REPEATED = 14        /* Insert after p, p at least 1, of the tag at p: a block that comes again and is filed where it belongs, right
+                               after its first copy. No other tag is looked at: the same command sent again, word for word, names the
+                               place before the copy, which stands at p + 1 by then, and is not refused */
 };
 
 /* Which proof 7, 8 and 9 speak of: `proof` of a qt_verdict. Of a joint proof it is the place instead: 0 the joint proof's own form (7 alone),
@@ -84,7 +87,7 @@ enum {
 enum {
     QT_READ = 0,    /* Read p, 1 to n: reports the tag, metadata stays */
     QT_REPLACE = 1, /* Replace p, 1 to n, by a tag; the height stays */
-    QT_INSERT = 2,  /* Insert after p, 0 to n, a tag with a height */
+    QT_INSERT = 2,  /* Insert after p, 0 to n, a tag with a height; for p at least 1 not the tag at p */
     QT_DELETE = 3   /* Delete p, 1 to n: two proofs, first for p - 1, second for p */
 };
 
@@ -95,7 +98,7 @@ typedef struct {
 
 /* Whether a call is done, or why not. */
 typedef struct {
-    uint32_t refusal; /* QT_DONE, or the refusal's number, 1 to 13 */
+    uint32_t refusal; /* QT_DONE, or the refusal's number, 1 to 14 */
     uint32_t proof;   /* which proof the refusal speaks of: QT_NO_PROOF, QT_FIRST or QT_SECOND; of a joint proof the place, 0 to 32 */
 } qt_verdict;
 
@@ -191,7 +194,7 @@ qt_proved qt_store_prove(const uint8_t *QT_ALONE image, size_t length, uint64_t 
                          uint64_t place);
 
 /* The store applies a command to the image in its buffer, and answers the new count. Insert or Delete moves later records by 33 bytes;
- * Delete sets the 33 bytes that the image gave up to zero; Read changes nothing. Refuses with 1, 2, 3, 4, 5, in this order. */
+ * Delete sets the 33 bytes that the image gave up to zero; Read changes nothing. Refuses with 1, 2, 3, 4, 14, 5, in this order. */
 qt_counted qt_store_apply(uint8_t *image, size_t length, qt_command command);
 
 /* The shape of an archive: the answer is n, and entries[p - 1] the number of entries in the path to block p (also above 200); other
@@ -205,8 +208,8 @@ qt_saved qt_gateway_save(qt_metadata metadata);
 qt_metadata_answer qt_gateway_load(const uint8_t *saved, size_t length);
 
 /* The gateway's check of a command against the metadata it holds. Read, Replace and Insert carry one proof, for p; Delete two, the first
- * for p - 1. The second is not looked at for another command than Delete. Refuses with 12, 2, 3, 4, then 7, 8, 9 on the first proof, the
- * same on the second, then 10, in this order. */
+ * for p - 1. The second is not looked at for another command than Delete. Refuses with 12, 2, 3, 4, then 7, 8, 9 on the first proof; then
+ * Insert with 14, and Delete with 7, 8, 9 on the second and 10; in this order. */
 qt_answer qt_gateway_check(qt_metadata metadata, qt_command command, const uint8_t *first, size_t first_length, const uint8_t *second,
                            size_t second_length);
 

@@ -301,6 +301,27 @@ static void refused_edits(void) {
     CHECK(qt_store_apply(flat, sizeof flat, command(QT_INSERT, 0, 0, ZERO)).count == QT_MOST_BLOCKS);
 }
 
+/* 14 is for the tag at p alone, and comes after 1, 2, 3, 4 and before 5. */
+static void repeated_edits(void) {
+    fill_five();
+    for (uint64_t p = 1; p <= 5; p += 1) {
+        qt_digest there = letter(p - 1);
+        CHECK(edit_refused(sizeof five, command(QT_INSERT, p, 0, there), QT_REPEATED));
+        CHECK(edit_refused(QT_IMAGE_SIZE(5), command(QT_INSERT, p, QT_MOST_HEIGHT, there), QT_REPEATED));
+        CHECK(edit_refused(QT_IMAGE_SIZE(5), command(QT_INSERT, p - 1, 0, there), QT_NO_ROOM));
+        CHECK(edit_refused(QT_IMAGE_SIZE(5) - 1, command(QT_INSERT, p, 0, there), QT_BAD_IMAGE));
+        CHECK(edit_refused(sizeof five, command(QT_INSERT, p, 16, there), QT_BAD_HEIGHT));
+        there.bytes[31] ^= 1;
+        CHECK(edit_refused(QT_IMAGE_SIZE(5), command(QT_INSERT, p, 0, there), QT_NO_ROOM));
+    }
+    CHECK(edit_refused(sizeof five, command(QT_INSERT, 6, 0, letter(4)), QT_BAD_POSITION));
+    fill_flat(QT_MOST_BLOCKS);
+    CHECK(refused(qt_store_apply(flat, sizeof flat, command(QT_INSERT, 1, 0, ZERO)).verdict, QT_FULL));
+    fill_flat(QT_MOST_BLOCKS - 1);
+    CHECK(refused(qt_store_apply(flat, sizeof flat, command(QT_INSERT, 1, 0, ZERO)).verdict, QT_REPEATED));
+    CHECK(refused(qt_store_apply(flat, sizeof flat, command(QT_INSERT, QT_MOST_BLOCKS - 1, 0, ZERO)).verdict, QT_REPEATED));
+}
+
 /* Saved metadata. */
 static void saved_metadata(void) {
     qt_metadata m = {.count = 5, .label = hex(five_label)};
@@ -411,6 +432,57 @@ static void refused_checks(void) {
     CHECK(is(a.verdict, QT_BAD_PROOF, QT_FIRST));
     a = qt_gateway_check(held, read, at.bytes, at.length, NULL, 0);
     CHECK(done(a.verdict) && same(a.tag, letter(2)));
+}
+
+/* 14 speaks of no proof and comes after 7, 8 and 9: a proof that only claims the new tag at p is refused for itself. */
+static void repeated_blocks(void) {
+    fill_five();
+    qt_metadata held = qt_store_check(five, sizeof five).metadata, another = held;
+    another.label = ZERO;
+    qt_digest x = digest_of("X", 1);
+    proof none = {.length = 0};
+    for (uint64_t p = 1; p <= 5; p += 1) {
+        proof at = proof_at(p), before = proof_at(p - 1), claimed = at;
+        memcpy(claimed.bytes + at.length - 74 + 6, x.bytes, 32); /* in the stop record, after kind, level and own */
+        qt_command again = command(QT_INSERT, p, 0, letter(p - 1)), high = again;
+        high.height = 16;
+        REFUSED(held, again, &at, &none, QT_REPEATED, QT_NO_PROOF);
+        REFUSED(held, again, &at, &at, QT_REPEATED, QT_NO_PROOF);
+        REFUSED(another, again, &at, &none, QT_WRONG_LABEL, QT_FIRST);
+        REFUSED(held, command(QT_INSERT, p, 0, x), &claimed, &none, QT_WRONG_LABEL, QT_FIRST);
+        REFUSED(held, again, &before, &none, QT_WRONG_POSITION, QT_FIRST);
+        REFUSED(held, again, &none, &at, QT_BAD_PROOF, QT_FIRST);
+        REFUSED(held, high, &at, &none, QT_BAD_HEIGHT, QT_NO_PROOF);
+    }
+}
+
+/* What is no repeat: a tag that stands at p + 1, as it does when Insert comes again word for word; anything at position 0; and another
+ * command than Insert. */
+static void no_repeats(void) {
+    accepted(command(QT_INSERT, 0, 0, ZERO), ZERO, 6);
+    for (uint64_t p = 1; p <= 5; p += 1) {
+        qt_digest before = p == 1 ? ZERO : letter(p - 2), there = letter(p - 1);
+        accepted(command(QT_INSERT, p - 1, 0, there), before, 6);
+        accepted(command(QT_READ, p, 0, there), there, 5);
+        accepted(command(QT_REPLACE, p, 0, there), there, 5);
+        accepted(command(QT_REPLACE, p, 0, before), there, 5);
+        accepted(command(QT_DELETE, p, 0, there), there, 4);
+    }
+}
+
+/* A zero tag repeats a block's zero tag, and nothing at position 0, which reports one. */
+static void zero_tags(void) {
+    fill_five();
+    qt_store_apply(five, sizeof five, command(QT_REPLACE, 1, 0, ZERO));
+    qt_metadata held = qt_store_check(five, sizeof five).metadata;
+    proof head = proof_at(0), first = proof_at(1), none = {.length = 0};
+    REFUSED(held, command(QT_INSERT, 1, 0, ZERO), &first, &none, QT_REPEATED, QT_NO_PROOF);
+    CHECK(edit_refused(sizeof five, command(QT_INSERT, 1, 0, ZERO), QT_REPEATED));
+    qt_answer a = asked(held, command(QT_INSERT, 0, 0, ZERO), &head, &none);
+    CHECK(done(a.verdict) && same(a.tag, ZERO));
+    qt_counted applied = qt_store_apply(five, sizeof five, command(QT_INSERT, 0, 0, ZERO));
+    CHECK(done(applied.verdict) && applied.count == 6);
+    CHECK(same_metadata(a.metadata, qt_store_check(five, sizeof five).metadata));
 }
 
 /* 10 comes where no archive has the metadata held: here a head, at its right a second head, at its right a block. The first proof stops at
@@ -720,10 +792,14 @@ int main(void) {
     proofs();
     refused_proofs();
     refused_edits();
+    repeated_edits();
     saved_metadata();
     commands();
     refused_openings();
     refused_checks();
+    repeated_blocks();
+    no_repeats();
+    zero_tags();
     refused_neighbours();
     joint_proofs();
     most_positions();

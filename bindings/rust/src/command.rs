@@ -10,7 +10,7 @@ pub enum Command {
     Read { position: u64 },
     /// Replace p, 1 to n, by a tag; the height stays.
     Replace { position: u64, tag: Tag },
-    /// Insert after p, 0 to n, a tag with a height, 0 to 15.
+    /// Insert after p, 0 to n, a tag with a height, 0 to 15; for p at least 1 not the tag at p.
     Insert { position: u64, height: u8, tag: Tag },
     /// Delete p, 1 to n: two proofs, first for p - 1, second for p.
     Delete { position: u64 },

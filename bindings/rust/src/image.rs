@@ -108,7 +108,7 @@ impl Image {
     /// use quaythistle::{Command, Image, Refusal};
     /// let mut image = Image::new();
     /// for position in 0..4 {
-    ///     image.apply(&Command::Insert { position, height: 0, tag: [7; 32] })?;
+    ///     image.apply(&Command::Insert { position, height: 0, tag: [position as u8; 32] })?;
     /// }
     /// let single: usize = (2..=4).map(|p| image.prove(p).unwrap().as_bytes().len()).sum();
     /// assert_eq!((image.prove_joint(&[2, 3, 4])?.as_bytes().len(), single), (384, 573));
@@ -124,7 +124,7 @@ impl Image {
         Ok(JointProof { bytes })
     }
 
-    /// Applies a command, and answers the new count. Refuses with 2, 3, 4, in this order.
+    /// Applies a command, and answers the new count. Refuses with 2, 3, 4, 14, in this order.
     ///
     /// ```
     /// # fn main() -> Result<(), quaythistle::Refusal> {
@@ -133,6 +133,7 @@ impl Image {
     /// let tag = quaythistle::tag(1_700_000_000, b"readings")?;
     /// assert_eq!(image.apply(&Command::Insert { position: 0, height: 3, tag }), Ok(1));
     /// assert_eq!(image.apply(&Command::Insert { position: 0, height: 16, tag }), Err(Refusal::BadHeight));
+    /// assert_eq!(image.apply(&Command::Insert { position: 1, height: 0, tag }), Err(Refusal::Repeated));
     /// assert_eq!(image.apply(&Command::Delete { position: 1 }), Ok(0));
     /// assert_eq!(image, Image::new());
     /// # Ok(())
@@ -154,7 +155,7 @@ impl Image {
     /// let mut image = Image::new();
     /// for height in [0, 2, 0, 1, 2] {
     ///     let position = image.count();
-    ///     image.apply(&Command::Insert { position, height, tag: [0; 32] })?;
+    ///     image.apply(&Command::Insert { position, height, tag: [position as u8; 32] })?;
     /// }
     /// assert_eq!(image.shape(), [2, 3, 4, 3, 2]);
     /// # Ok(())

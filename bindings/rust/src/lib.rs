@@ -2,7 +2,7 @@
 //!
 //! The store keeps an [`Image`] and proves what stands at a position; the gateway keeps only [`Metadata`], a count and a root label, and
 //! from a proof it works out the metadata after a [`Command`]. Up to 32 positions are read with one [`JointProof`]. A store that lies is
-//! refused, by number: see [`Refusal`].
+//! refused, by number: see [`Refusal`]. So is a block filed again right after itself: see [`Refusal::Repeated`].
 //!
 //! ```
 //! # fn main() -> Result<(), quaythistle::Refusal> {

@@ -51,18 +51,21 @@ impl Metadata {
     }
 
     /// The gateway's check of a command, with the bytes of its first proof and, for Delete, of its second. Refuses with 12, 2, 3, 4, then
-    /// 7, 8, 9 on the first proof, the same on the second, then 10, in this order.
+    /// 7, 8, 9 on the first proof; then Insert with 14, and Delete with 7, 8, 9 on the second and 10; in this order.
     ///
     /// ```
     /// # fn main() -> Result<(), quaythistle::Refusal> {
     /// use quaythistle::{Command, Image, Refusal, Which};
     /// let mut image = Image::new();
     /// let held = image.metadata();
-    /// let insert = Command::Insert { position: 0, height: 1, tag: quaythistle::tag(1_700_000_000, b"readings")? };
-    /// let accepted = held.check(&insert, image.prove(0)?.as_bytes(), &[])?;
-    /// image.apply(&insert)?;
+    /// let tag = quaythistle::tag(1_700_000_000, b"readings")?;
+    /// let insert = |position| Command::Insert { position, height: 1, tag };
+    /// let accepted = held.check(&insert(0), image.prove(0)?.as_bytes(), &[])?;
+    /// image.apply(&insert(0))?;
     /// assert_eq!(accepted.metadata, image.metadata());
-    /// assert_eq!(held.check(&insert, b"no proof", &[]), Err(Refusal::BadProof(Which::First)));
+    /// assert_eq!(held.check(&insert(0), b"no proof", &[]), Err(Refusal::BadProof(Which::First)));
+    /// let again = accepted.metadata.check(&insert(1), image.prove(1)?.as_bytes(), &[]);
+    /// assert_eq!(again, Err(Refusal::Repeated));
     /// # Ok(())
     /// # }
     /// ```

@@ -189,7 +189,7 @@ mod tests {
         let verdict = |refusal, proof| Verdict { refusal, proof };
         assert_eq!(verdict(0, 0).settled(7), Ok(7));
         assert_eq!(verdict(0, 0).settled_at_place(7), Ok(7));
-        for number in 1..=13 {
+        for number in 1..=14 {
             let speaks = |which| Some(which).filter(|_| (7..=9).contains(&number));
             for (proof, which) in [(1, Which::First), (2, Which::Second)] {
                 let refusal = verdict(number, proof).settled(7).unwrap_err();

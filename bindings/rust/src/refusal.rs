@@ -12,7 +12,7 @@ pub enum Which {
     Place(u8),
 }
 
-/// Why a call will not, in the order of their numbers, 1 to 13. A refusal changes nothing that the call was lent.
+/// Why a call will not, in the order of their numbers, 1 to 14. A refusal changes nothing that the call was lent.
 #[derive(Clone, Copy, Debug, PartialEq, Eq, Hash)]
 pub enum Refusal {
     /// 1: buffer under 7 bytes, version not 1, length not 2 + 33n, n over 4,096, buffer shorter than the image, or a height over 15.
@@ -43,6 +43,10 @@ pub enum Refusal {
     BadMetadata,
     /// 13: positions of a joint proof: none, over 32, or one not above the one before.
     BadSet,
+    /// 14: Insert after p, p at least 1, of the tag at p: a block that comes again and is filed where it belongs, right after its first copy.
+    /// No other tag is looked at: the same command sent again, word for word, names the place before the copy, which stands at p + 1 by
+    /// then, and is not refused.
+    Repeated,
 }
 
 impl Refusal {
@@ -52,7 +56,7 @@ impl Refusal {
     /// use quaythistle::{Refusal, Which};
     /// assert_eq!(Refusal::BadImage.number(), 1);
     /// assert_eq!(Refusal::BadProof(Which::Second).number(), 7);
-    /// assert_eq!(Refusal::BadSet.number(), 13);
+    /// assert_eq!(Refusal::Repeated.number(), 14);
     /// ```
     pub fn number(self) -> u32 {
         match self {
@@ -69,6 +73,7 @@ impl Refusal {
             Refusal::LongMessage => 11,
             Refusal::BadMetadata => 12,
             Refusal::BadSet => 13,
+            Refusal::Repeated => 14,
         }
     }
 
@@ -111,6 +116,7 @@ impl Refusal {
             Refusal::LongMessage => "LONG MESSAGE",
             Refusal::BadMetadata => "BAD METADATA",
             Refusal::BadSet => "BAD SET",
+            Refusal::Repeated => "REPEATED",
         }
     }
 
@@ -131,6 +137,7 @@ impl Refusal {
             11 => Some(Refusal::LongMessage),
             12 => Some(Refusal::BadMetadata),
             13 => Some(Refusal::BadSet),
+            14 => Some(Refusal::Repeated),
             _ => unreachable!("no call refuses with {number}"),
         }
     }

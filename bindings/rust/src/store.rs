@@ -64,7 +64,7 @@ pub fn prove(
 /// use quaythistle::{store, Command, Image, Refusal};
 /// let mut image = Image::new();
 /// for position in 0..3 {
-///     image.apply(&Command::Insert { position, height: 0, tag: [7; 32] })?;
+///     image.apply(&Command::Insert { position, height: 0, tag: [position as u8; 32] })?;
 /// }
 /// let mut buffer = [0; 272];
 /// assert_eq!(store::prove_joint(image.as_bytes(), &[1, 3], &mut buffer, 2), Ok(270));
@@ -94,16 +94,18 @@ pub fn prove_joint(
     answer.verdict.settled(answer.length as usize)
 }
 
-/// Applies a command to the image in its buffer, and answers the new count. Refuses with 1, 2, 3, 4, 5, in this order.
+/// Applies a command to the image in its buffer, and answers the new count. Refuses with 1, 2, 3, 4, 14, 5, in this order.
 ///
 /// ```
 /// # fn main() -> Result<(), quaythistle::Refusal> {
 /// use quaythistle::{store, Command, Refusal};
 /// let mut buffer = [0; 40];
 /// buffer[..7].copy_from_slice(&[1, 0, 0, 0, 2, 0, 0]);
-/// let insert = Command::Insert { position: 0, height: 0, tag: quaythistle::tag(1_700_000_000, b"readings")? };
-/// assert_eq!(store::apply(&mut buffer, &insert), Ok(1));
-/// assert_eq!(store::apply(&mut buffer, &insert), Err(Refusal::NoRoom));
+/// let tag = quaythistle::tag(1_700_000_000, b"readings")?;
+/// let insert = |position| Command::Insert { position, height: 0, tag };
+/// assert_eq!(store::apply(&mut buffer, &insert(0)), Ok(1));
+/// assert_eq!(store::apply(&mut buffer, &insert(0)), Err(Refusal::NoRoom));
+/// assert_eq!(store::apply(&mut buffer, &insert(1)), Err(Refusal::Repeated));
 /// # Ok(())
 /// # }
 /// ```

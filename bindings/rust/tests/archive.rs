@@ -18,13 +18,20 @@ fn letter(position: u64) -> Tag {
     }
 }
 
+/// A tag that names its position: no two of a row are the same.
+fn numbered(position: u64) -> Tag {
+    let mut tag = [0; 32];
+    tag[..8].copy_from_slice(&position.to_be_bytes());
+    tag
+}
+
 fn row(heights: &[u8]) -> Image {
     let mut image = Image::new();
     for (position, &height) in (0..).zip(heights) {
         let insert = Command::Insert {
             position,
             height,
-            tag: [0; 32],
+            tag: numbered(position + 1),
         };
         image.apply(&insert).unwrap();
     }
@@ -131,6 +138,54 @@ fn a_refused_edit_changes_nothing() {
     assert_eq!(full.count(), 4096);
 }
 
+fn insert(position: u64, tag: Tag) -> Command {
+    Command::Insert {
+        position,
+        height: 1,
+        tag,
+    }
+}
+
+/// Files a block after a position: the gateway checks, the store applies; what the gateway holds afterwards. Both refuse alike.
+fn filed(held: Metadata, image: &mut Image, position: u64, tag: Tag) -> Result<Metadata, Refusal> {
+    let command = insert(position, tag);
+    let proof = image.prove(position).unwrap();
+    let answer = held.check(&command, proof.as_bytes(), b"");
+    assert_eq!(image.apply(&command).err(), answer.err());
+    answer.map(|accepted| accepted.metadata)
+}
+
+#[test]
+fn a_block_that_comes_again_is_refused() {
+    for position in 0..=5 {
+        let mut image = five();
+        let tag = digest(b"X").unwrap();
+        let held = filed(image.metadata(), &mut image, position, tag).unwrap();
+        let before = image.clone();
+        let again = filed(held, &mut image, position + 1, tag);
+        assert_eq!(again, Err(Refusal::Repeated));
+        assert_eq!((&image, image.metadata()), (&before, held));
+        let proof = image.prove(position).unwrap();
+        let wrong = held.check(&insert(position + 1, tag), proof.as_bytes(), b"");
+        assert_eq!(wrong, Err(Refusal::WrongPosition(Which::First)));
+    }
+}
+
+/// Only the tag at p counts, and at position 0 there is none: the same command word for word finds the copy at p + 1.
+#[test]
+fn another_place_is_no_repeat() {
+    for position in 0..=5 {
+        for tag in [digest(b"X").unwrap(), [0; 32]] {
+            let mut image = five();
+            let first = filed(image.metadata(), &mut image, position, tag).unwrap();
+            let second = filed(first, &mut image, position, tag).unwrap();
+            assert_eq!((image.count(), second), (7, image.metadata()));
+            let third = filed(second, &mut image, position + 2, tag);
+            assert_eq!(third, Err(Refusal::Repeated));
+        }
+    }
+}
+
 #[test]
 fn the_gateway_refuses() {
     let image = five();
@@ -222,7 +277,8 @@ fn every_set_of_positions_is_proved_and_read() {
     let proof = flat.prove_joint(&last).unwrap();
     assert_eq!(proof.as_bytes().len(), 6 + 74 * 32 + 2 * 31 + 38 * 200);
     let answer = flat.metadata().check_joint(&last, proof.as_bytes());
-    assert_eq!(answer, Ok(vec![[0; 32]; 32]));
+    let tags = last.iter().map(|&p| numbered(p)).collect();
+    assert_eq!(answer, Ok(tags));
 }
 
 #[test]
