@@ -9,7 +9,7 @@ use Rattle.octets.specs.Numbers.{be}
 use Rattle.refusals.specs.declared.Refusal.the-variants.{NoRoom}
 use Rattle.refusals.specs.declared.Verdict.the-variants.{Done}
 use Rattle.skiplist.specs.Limits.{mostHeight}
-use Rattle.skiplist.specs.Row.{Column, AtMost}
+use Rattle.skiplist.specs.Row.{AtMost}
 use Rattle.skiplist.specs.Entry.{Entry}
 use Rattle.skiplist.specs.Blocks.{shown}
 use Rattle.labels.specs.declared.Side.{Side}
@@ -18,15 +18,9 @@ use Rattle.proofbytes.specs.Layout.{entrySize, stopSize}
 use Rattle.proofbytes.specs.Writing.{stopFields}
 use Rattle.jointbytes.specs.Layout.{sharedBytes}
 use Rattle.jointbytes.specs.Spelling.{common, joined}
-use Rattle.store.specs.declared.plan.Mark.{Mark}
 use Rattle.store.specs.declared.Proved.{Proved}
-use Rattle.store.specs.Passes.{slotOf, slotsOf, itemAt, runOf, marked, refusedProof, bytesOf, tailAt}
+use Rattle.store.specs.Passes.{slotOf, slotsOf, itemAt, runOf, refusedProof, bytesOf, tailAt}
 use Rattle.jointstore.specs.Answers.{rawAt}
-
--- COUNTING by heights: the mark m with the run A put in front of what it marks
-unfoldable pub onto : Mark → List Column → Mark
-onto m [] = m
-onto m (d ∷ A) = marked (onto m A) (d .height)
 
 -- the number of leading entries that the paths to columns p and q share
 unfoldable pub sharedAt : List ℕ → ℕ → ℕ → ℕ

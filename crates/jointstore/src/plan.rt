@@ -4,13 +4,13 @@ ghost use mathlib.Core.Path.{_≡_};
 ghost use mathlib.Core.Bool.{true};
 ghost use Prim.Native.Nat.{_+_, _-_, _≤_, _<_};
 ghost use lib.ListN.{length};
-ghost use Rattle.skiplist.specs.Length.{tallest, downColumns};
+ghost use Rattle.skiplist.specs.Length.{tallest};
 ghost use Rattle.archive.specs.Reading.{countOf};
 ghost use Rattle.jointbytes.specs.Positions.{isSet, within};
 ghost use Rattle.store.specs.Answers.{entriesAt};
 ghost use Rattle.store.specs.Passes.{Opened, runOf};
 ghost use Rattle.jointstore.specs.Answers.{jointAt, allShallow, jointOf};
-ghost use Rattle.jointstore.specs.Passes.{onto, sharedAt, Reaches, pieceAt, answerOf};
+ghost use Rattle.jointstore.specs.Passes.{sharedAt, Reaches, pieceAt, answerOf};
 use archive::Layout;
 use jointbytes::HEADER;
 use jointbytes::SHARED;
@@ -23,37 +23,6 @@ use refusals::Verdict;
 use store::Proved;
 use store::plan::Mark;
 
-// From the right: the mark m goes on over the columns after column `to` up to column `from`.
-fn passing(b: &[u8], x: Layout, m: Mark, to: usize, from: usize) -> Mark
-    requires { ⌜ Opened (now b) x × (to ≤ from) × (from ≤ x .count) × (m .count ≤ x .count) ⌝ }
-    ensures { λ r. ⌜ (r ≡ onto m (runOf (now (b .entry)) to from)) × (m .count ≤ r .count)
-        × (r .count ≤ m .count + (from - to)) ⌝ }
-{
-    let mut t = m;
-    let mut j = from;
-    while to < j {
-        j -= 1;
-        t = store::plan::passed(t, archive::height(b, x, j));
-    }
-    t
-}
-
-// From the left: the columns after column `from` that are above a level and taller than all before them.
-fn above(b: &[u8], x: Layout, level: u64, from: usize) -> u64
-    requires { ⌜ Opened (now b) x × (from ≤ x .count) ⌝ }
-    ensures { λ r. ⌜ (r ≡ length (downColumns level (runOf (now (b .entry)) from (x .count))))
-        × (r ≤ x .count - from) ⌝ }
-{
-    let n = x.count;
-    let mut m = Mark { level, count: 0 };
-    let mut j = from;
-    while j < n {
-        m = store::plan::climbed(m, archive::height(b, x, j));
-        j += 1;
-    }
-    m.count
-}
-
 // The entries that the paths to columns p and q share: the right entries of the path to q past columns up to p, and the
 // down entries above all columns between the two.
 pub fn shared(b: &[u8], x: Layout, p: usize, q: usize) -> u64
@@ -61,9 +30,9 @@ pub fn shared(b: &[u8], x: Layout, p: usize, q: usize) -> u64
     ensures { λ r. ⌜ (r ≡ sharedAt (now (b .entry)) p q) × (r ≤ entriesAt (now (b .entry)) q) ⌝ }
 {
     let none = Mark { level: 0, count: 0 };
-    let between = passing(b, x, none, p, q);
-    let all = passing(b, x, between, 0, p);
-    all.count - between.count + above(b, x, between.level, q)
+    let between = store::plan::passing(b, x, none, p, q);
+    let all = store::plan::passing(b, x, between, 0, p);
+    all.count - between.count + store::plan::above(b, x, between.level, q)
 }
 
 // The greatest height of the columns after column p up to column q.
@@ -72,7 +41,7 @@ pub fn between(b: &[u8], x: Layout, p: usize, q: usize) -> u64
     ensures { λ r. ⌜ r ≡ tallest (runOf (now (b .entry)) p q) ⌝ }
 {
     let none = Mark { level: 0, count: 0 };
-    let m = passing(b, x, none, p, q);
+    let m = store::plan::passing(b, x, none, p, q);
     m.level
 }
 

@@ -5,7 +5,7 @@ use native.Mathlib.Omega.{arith}
 use mathlib.Core.Path.{_≡_, refl, ap, sym, _∙_}
 use mathlib.Core.Logic.{_⊎_, inl, inr}
 use mathlib.Core.Bool.{Bool, true, false, cond}
-use mathlib.Core.List.{List, _∷_}
+use mathlib.Core.List.{List, [], _∷_, _++_, append-nil}
 use lib.Dec.{ltb, leb}
 use lib.ListN.{length}
 use borrow.Author.Tests.{lt-ltb, le-ltb, lt-leb, le-leb}
@@ -16,17 +16,29 @@ use Rattle.skiplist.proofs.Cases.{order}
 use Rattle.archive.specs.Reading.{heightAt, blockAt, blocksFrom}
 use Rattle.archive.proofs.RecordLaws.{next-block, no-blocks}
 use Rattle.store.specs.declared.plan.Mark.{Mark}
-use Rattle.store.specs.Passes.{runOf, markOf, marked, risen, nearest}
+use Rattle.store.specs.Passes.{runOf, markOf, marked, risen, onto, nearest}
 use Rattle.store.proofs.RunLaws.{run-front, run-none}
 
-abbrev noMark : Mark
-noMark = record { level = 0; count = 0 }
-
 -- ---- right entries, from the right
-pub marks-start : (b : List ℕ) (p : ℕ) → noMark ≡ markOf (runOf b p p)
-marks-start b p = rw (run-none b p p (omega arith), no-blocks b p)
+pub onto-none : (b : List ℕ) (m : Mark) (p : ℕ) → m ≡ onto m (runOf b p p)
+unfolding onto
+onto-none b m p = rw (run-none b p p (omega arith), no-blocks b p)
 
-pub mark-column : (d : Column) (A : List Column) → marked (markOf A) (d .height) ≡ markOf (d ∷ A)
+pub onto-next : (b : List ℕ) (m : Mark) (to from j h : ℕ) (t x : Mark) → to < j → j ≤ from → h ≡ heightAt b (j - 1)
+    → t ≡ onto m (runOf b j from) → x ≡ marked t h → x ≡ onto m (runOf b (j - 1) from)
+unfolding onto
+onto-next b m to from j h t x a k eh et ex =
+    ex ∙ rw (et, eh) (ap (λ q. onto m (row q)) (sym (run-front b j from (omega arith) k)))
+
+pub marked-more : (m : Mark) (h : ℕ) (x : Mark) → x ≡ marked m h → m .count ≤ x .count
+marked-more m h x e = rw e (go (ltb h (m .level)))
+  where
+    go : (t : Bool) → m .count ≤ cond t m (record { level = h; count = m .count + 1 }) .count
+    go true = omega arith
+    go false = omega arith
+
+-- the marks of a run and of what stands behind it
+mark-column : (d : Column) (A : List Column) → marked (markOf A) (d .height) ≡ markOf (d ∷ A)
 mark-column d A = go (ltb (d .height) (tallest A))
   where
     go : (c : Bool) → cond c (markOf A) (record { level = d .height; count = length (rightColumns A) + 1 })
@@ -38,12 +50,13 @@ mark-column d A = go (ltb (d .height) (tallest A))
     go true = refl
     go false = let e : length (rightColumns A) + 1 ≡ suc (length (rightColumns A)) = omega arith in rw e
 
-pub marks-next : (b : List ℕ) (p j h : ℕ) (m x : Mark) → 0 < j → j ≤ p → h ≡ heightAt b (j - 1) → m
-    ≡ markOf (runOf b j p)
-    → x ≡ marked m h → x ≡ markOf (runOf b (j - 1) p)
-marks-next b p j h m x a k eh em ex =
-    ex ∙ rw (em, eh) (mark-column (column (blockAt b (j - 1))) (runOf b j p)
-    ∙ ap (λ q. markOf (row q)) (sym (run-front b j p a k)))
+pub onto-marks : (A B : List Column) → onto (markOf B) A ≡ markOf (A ++ B)
+unfolding onto
+onto-marks [] B = refl
+onto-marks (d ∷ A) B = rw (onto-marks A B) (mark-column d (A ++ B))
+
+pub onto-mark : (A : List Column) → onto (record { level = 0; count = 0 }) A ≡ markOf A
+onto-mark A = onto-marks A [] ∙ ap markOf (append-nil A)
 
 -- ---- down entries, from the left
 -- how many columns of the run B are taller than the mark and all before them, and those that are counted already

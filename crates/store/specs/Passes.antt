@@ -85,6 +85,11 @@ marked m h = cond (ltb h (m .level)) m (record { level = h; count = m .count + 1
 abbrev pub risen : Mark → ℕ → Mark
 risen m h = cond (ltb (m .level) h) (record { level = h; count = m .count + 1 }) m
 
+-- the mark m with the run A put in front of what it marks
+unfoldable pub onto : Mark → List Column → Mark
+onto m [] = m
+onto m (d ∷ A) = marked (onto m A) (d .height)
+
 -- the number of entries in the path to column p of n
 abbrev pub countAt : List ℕ → ℕ → ℕ → ℕ
 countAt b n p = entryCount (runOf b 0 p) (runOf b p n)

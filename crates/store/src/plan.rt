@@ -11,7 +11,7 @@ ghost use Rattle.commands.specs.Admission.{leastOf};
 ghost use Rattle.commands.specs.Meaning.{meaning};
 ghost use Rattle.archive.specs.Reading.{blocksOf};
 ghost use Rattle.store.specs.Answers.{proveOf, applyOf};
-ghost use Rattle.store.specs.Passes.{Opened, runOf, markOf, marked, risen, countAt, nearest, refusedProof};
+ghost use Rattle.store.specs.Passes.{Opened, runOf, marked, risen, onto, countAt, nearest, refusedProof};
 ghost use Rattle.store.specs.Passes.{refusedEdit, countAfter};
 use crate::Applied;
 use crate::Proved;
@@ -32,7 +32,7 @@ pub struct Mark {
 }
 
 // From the right: a column with no taller one after it has a right entry.
-pub fn passed(m: Mark, h: u64) -> Mark
+fn passed(m: Mark, h: u64) -> Mark
     requires { ⌜ m .count < 4294967296 ⌝ }
     ensures { λ r. ⌜ (r ≡ marked m h) × (r .count ≤ m .count + 1) ⌝ }
 {
@@ -46,7 +46,7 @@ pub fn passed(m: Mark, h: u64) -> Mark
 }
 
 // From the left: a column taller than all before it has a down entry.
-pub fn climbed(m: Mark, h: u64) -> Mark
+fn climbed(m: Mark, h: u64) -> Mark
     requires { ⌜ m .count < 4294967296 ⌝ }
     ensures { λ r. ⌜ (r ≡ risen m h) × (r .count ≤ m .count + 1) ⌝ }
 {
@@ -59,44 +59,45 @@ pub fn climbed(m: Mark, h: u64) -> Mark
     m
 }
 
-// The right entries of the path to column p.
-fn rights(b: &[u8], x: Layout, p: usize) -> Mark
-    requires { ⌜ Opened (now b) x × (p ≤ x .count) ⌝ }
-    ensures { λ r. ⌜ (r ≡ markOf (runOf (now (b .entry)) 0 p)) × (r .count ≤ p) ⌝ }
+// From the right: the mark m goes on over the columns after column `to` up to column `from`.
+pub fn passing(b: &[u8], x: Layout, m: Mark, to: usize, from: usize) -> Mark
+    requires { ⌜ Opened (now b) x × (to ≤ from) × (from ≤ x .count) × (m .count ≤ x .count) ⌝ }
+    ensures { λ r. ⌜ (r ≡ onto m (runOf (now (b .entry)) to from)) × (m .count ≤ r .count)
+        × (r .count ≤ m .count + (from - to)) ⌝ }
 {
-    let mut m = Mark { level: 0, count: 0 };
-    let mut j = p;
-    while 0 < j {
+    let mut t = m;
+    let mut j = from;
+    while to < j {
         j -= 1;
-        m = passed(m, archive::height(b, x, j));
+        t = passed(t, archive::height(b, x, j));
     }
-    m
+    t
 }
 
-// Its down entries.
-fn downs(b: &[u8], x: Layout, p: usize) -> Mark
-    requires { ⌜ Opened (now b) x × (p ≤ x .count) ⌝ }
-    ensures { λ r. ⌜ (r .count ≡ length (downColumns 0 (runOf (now (b .entry)) p (x .count))))
-        × (r .count ≤ x .count - p) ⌝ }
+// From the left: the columns after column `from` that are above a level and taller than all before them.
+pub fn above(b: &[u8], x: Layout, level: u64, from: usize) -> u64
+    requires { ⌜ Opened (now b) x × (from ≤ x .count) ⌝ }
+    ensures { λ r. ⌜ (r ≡ length (downColumns level (runOf (now (b .entry)) from (x .count))))
+        × (r ≤ x .count - from) ⌝ }
 {
     let n = x.count;
-    let mut m = Mark { level: 0, count: 0 };
-    let mut j = p;
+    let mut m = Mark { level, count: 0 };
+    let mut j = from;
     while j < n {
         m = climbed(m, archive::height(b, x, j));
         j += 1;
     }
-    m
+    m.count
 }
 
-// The number of entries in the path to column p.
+// The number of entries in the path to column p: the right ones past columns up to p, and the down ones.
 pub fn entries(b: &[u8], x: Layout, p: usize) -> u64
     requires { ⌜ Opened (now b) x × (p ≤ x .count) ⌝ }
     ensures { λ r. ⌜ (r ≡ countAt (now (b .entry)) (x .count) p) × (r ≤ x .count) ⌝ }
 {
-    let r = rights(b, x, p);
-    let d = downs(b, x, p);
-    r.count + d.count
+    let none = Mark { level: 0, count: 0 };
+    let m = passing(b, x, none, 0, p);
+    m.count + above(b, x, 0, p)
 }
 
 // The nearest column at or before column m whose height is at least h, or the head.

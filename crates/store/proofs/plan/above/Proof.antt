@@ -1,16 +1,16 @@
--- `jointstore::plan::above` meets its contract: what is counted and what is left to count stay together.
+-- `store::plan::above` meets its contract: what is counted and what is left to count stay together.
 -- Assumes nothing.
 use native.Mathlib.Omega.{arith}
 use Prim.Native.Nat.{_+_, _-_, _≤_}
 use mathlib.Core.Path.{_≡_, refl, _∙_}
 use lib.ListN.{length}
 use Rattle.skiplist.specs.Length.{downColumns}
 use Rattle.store.specs.Passes.{runOf}
 use Rattle.store.proofs.RunLaws.{readable, few}
 use Rattle.store.proofs.PlanLaws.{climbing, climb-next, climb-end}
 use borrow.Author.Needs.{needs}
-use Rattle.jointstore.proofs.plan.above.Statement.{statement}
-use Rattle.jointstore.proofs.plan.above.Tie as tie
+use Rattle.store.proofs.plan.above.Statement.{statement}
+use Rattle.store.proofs.plan.above.Tie as tie
 
 abbrev Inv-loop : tie.InvT-loop
 Inv-loop b x level from n m₀ j₀ m j =

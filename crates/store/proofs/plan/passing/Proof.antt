@@ -1,23 +1,25 @@
--- `store::plan::rights` meets its contract: m marks the columns after column j up to column p.
+-- `store::plan::passing` meets its contract: the columns after column j are passed.
 -- Assumes nothing.
 use native.Mathlib.Omega.{arith}
-use Prim.Native.Nat.{_-_, _≤_}
+use Prim.Native.Nat.{_+_, _-_, _≤_}
 use mathlib.Core.Path.{_≡_, _∙_}
-use Rattle.store.specs.Passes.{markOf, runOf}
+use Rattle.store.specs.Passes.{runOf, onto}
 use Rattle.store.proofs.RunLaws.{readable, few}
-use Rattle.store.proofs.PlanLaws.{marks-start, marks-next}
+use Rattle.store.proofs.PlanLaws.{onto-none, onto-next, marked-more}
 use borrow.Author.Needs.{needs}
-use Rattle.store.proofs.plan.rights.Statement.{statement}
-use Rattle.store.proofs.plan.rights.Tie as tie
+use Rattle.store.proofs.plan.passing.Statement.{statement}
+use Rattle.store.proofs.plan.passing.Tie as tie
 
 abbrev Inv-loop : tie.InvT-loop
-Inv-loop b x p m₀ j₀ m j = (j ≤ p) × (m .count ≤ p - j) × (m ≡ markOf (runOf b j p))
+Inv-loop b x to from t₀ j₀ t j =
+    (to ≤ j) × (j ≤ from) × (t₀ .count ≤ t .count) × (t .count ≤ t₀ .count + (from - j))
+    × (t ≡ onto t₀ (runOf b j from))
 
 abbrev μ-loop : tie.MeasureT-loop
-μ-loop b x p m₀ j₀ m j = j
+μ-loop b x to from t₀ j₀ t j = j
 
 loop-holds : tie.Need-loop-holds Inv-loop μ-loop
-loop-holds c = (search needs, search needs, marks-start _ _)
+loop-holds c = (search needs, search needs, search needs, search needs, onto-none _ _ _)
 
 sub-j : tie.Need-sub-j Inv-loop μ-loop
 sub-j c = search needs
@@ -43,20 +45,26 @@ loop-again c =
     let k = h .before .before in
     let a = k .before .before in (
       search needs,
+      search needs,
+      omega (
+        arith,
+        marked-more (k .loop .t) (h .height .result) (c .passed .result) (c .passed .ensures .0),
+      ),
       omega arith,
-      marks-next (a .args .b .now) (a .args .p) (k .loop .j) (h .height .result) (k .loop .m) (c .passed .result)
-          (search needs)
-          (search needs) (h .height .ensures .0) (k .loop .inv .2) (c .passed .ensures .0),
+      onto-next (a .args .b .now) (a .args .m) (a .args .to) (a .args .from) (k .loop .j) (h .height .result)
+          (k .loop .t) (c .passed .result) (search needs) (search needs) (h .height .ensures .0) (k .loop .inv .4)
+          (c .passed .ensures .0),
     )
 
 returns : tie.Need-returns Inv-loop μ-loop
 returns c =
     let k = c .before in
-    let e : k .loop .j ≡ 0 = omega arith in
-    (k .loop .inv .2 ∙ rw e, omega arith)
+    let a = k .before .before in
+    let e : k .loop .j ≡ a .args .to = omega arith in
+    (k .loop .inv .4 ∙ rw e, omega arith, omega arith)
 
-pub rights-spec : {M : Type 1} → statement M
-rights-spec =
+pub passing-spec : {M : Type 1} → statement M
+passing-spec =
     tie.close
     (tie.spec
     Inv-loop
