@@ -2,7 +2,7 @@
 -- Assumes nothing.
 use Prim.Native.Nat.{ℕ, zero, suc, _+_, _-_, _≤_, _<_}
 use native.Mathlib.Omega.{arith}
-use mathlib.Core.Path.{_≡_, refl, sym, ap, _∙_}
+use mathlib.Core.Path.{_≡_, sym, ap, _∙_}
 use mathlib.Core.Logic.{_⊎_, inl, inr}
 use mathlib.Core.Bool.{Bool, true, false, _&&_}
 use mathlib.Core.List.{List}
@@ -13,13 +13,9 @@ use Rattle.octets.specs.Numbers.{numberAt}
 use Rattle.skiplist.specs.Limits.{mostBlocks, mostHeight}
 use Rattle.skiplist.specs.Row.{AtMost}
 use Rattle.skiplist.specs.Blocks.{row}
-use Rattle.skiplist.proofs.Cases.{order}
+use Rattle.skiplist.proofs.Cases.{order, both}
 use Rattle.archive.specs.Form.{imageVersion, lengthPlace, lengthBytes, headerBytes, restBytes, imageBytes}
 use Rattle.archive.specs.Reading.{countOf, heightAt, blocksFrom, held, low, framed, sound}
-
-pub both : (a b : Bool) → (a && b) ≡ true → (a ≡ true) × (b ≡ true)
-both true b e = (refl, e)
-both false b e = let z : _≡_ {A = ℕ} 0 1 = cc in absurd (omega arith)
 
 -- ---- the returns of `frame`
 module _ (b : List ℕ) where

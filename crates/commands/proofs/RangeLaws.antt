@@ -4,7 +4,7 @@
 use Prim.Native.Nat.{ℕ, _≤_}
 use native.Mathlib.Omega.{arith}
 use mathlib.Core.Path.{_≡_, refl}
-use mathlib.Core.Bool.{Bool, true, false, _||_, _&&_}
+use mathlib.Core.Bool.{Bool, true, false}
 use mathlib.Core.List.{List}
 use lib.Dec.{ltb}
 use lib.ListN.{length}
@@ -17,21 +17,13 @@ use Rattle.refusals.proofs.OrderLaws.{done-none}
 use Rattle.skiplist.specs.Limits.{mostBlocks, mostHeight}
 use Rattle.skiplist.specs.Blocks.{Block, tagAt}
 use Rattle.skiplist.specs.Commands.{InRange, spot, firstAt, repeatsAt, repeats}
-use Rattle.skiplist.proofs.Cases.{never}
+use Rattle.skiplist.proofs.Cases.{never, both, neither}
 use Rattle.commands.specs.declared.Operation.{Operation}
 use Rattle.commands.specs.declared.Operation.the-variants.{Read, Replace, Insert, Delete}
 use Rattle.commands.specs.declared.Command.{Command}
 use Rattle.commands.specs.Admission.{leastOf, insertsOf, admissionRules}
 use Rattle.commands.specs.Meaning.{orderOf, meaning}
 use Rattle.commands.specs.Again.{Again}
-
-neither : (a b : Bool) → (a || b) ≡ false → (a ≡ false) × (b ≡ false)
-neither true b e = never cc
-neither false b e = (refl, e)
-
-both : (a b : Bool) → (a && b) ≡ true → (a ≡ true) × (b ≡ true)
-both true b e = (refl, e)
-both false b e = never cc
 
 -- WHAT AN ADMITTED COMMAND SAYS
 pub record Admitted (k : Command) (n : ℕ) : Type 0 where

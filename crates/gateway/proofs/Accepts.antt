@@ -14,11 +14,11 @@ use Rattle.skiplist.specs.Find.{ownAt}
 use Rattle.skiplist.specs.Check.{Accepted}
 use Rattle.skiplist.specs.Limits.{mostHeight}
 use Rattle.skiplist.specs.Blocks.{Sent}
+use Rattle.skiplist.proofs.Cases.{both}
 use Rattle.commands.specs.declared.Metadata.{Metadata}
 use Rattle.commands.specs.Meaning.{heldSide}
 use Rattle.proofbytes.specs.Reading.{placeOf}
 use Rattle.proofbytes.specs.Form.{wellFormed}
-use Rattle.proofbytes.proofs.FormLaws.{both}
 use Rattle.proofbytes.proofs.WrittenBack.{formed-writable, writable-formed}
 use Rattle.gateway.specs.declared.examine.Finding.the-variants.{Fine}
 use Rattle.gateway.specs.Checking.{𝓢, proves, ranked, rooted}

@@ -23,13 +23,13 @@ use Rattle.skiplist.specs.Label.{Side, leafSide}
 use Rattle.skiplist.specs.Equal.{is, item-discrete, side-discrete, same}
 use Rattle.skiplist.specs.Meeting.{Parting, later, share, parting, partsAt, parts, onlyBelow, meets, remains}
 use Rattle.skiplist.specs.Blocks.{itemOf}
+use Rattle.skiplist.proofs.Cases.{both}
 use Rattle.commands.specs.declared.Metadata.{Metadata}
 use Rattle.labels.specs.declared.Side as code
 use Rattle.labels.specs.CodeSides.{leafOf}
 use Rattle.proofbytes.specs.declared.read.Fields.{Fields}
 use Rattle.proofbytes.specs.declared.read.Beside.{Beside}
 use Rattle.proofbytes.specs.Reading.{at, fieldsAt, besideAt, entryOf, sideFrom, entryAt, entriesFrom, countOf, placeOf}
-use Rattle.proofbytes.proofs.FormLaws.{both}
 use Rattle.proofbytes.proofs.ReadingLaws.{entries-none, entries-down}
 use Rattle.gateway.specs.Climbing.{itemAt, stopSideOf, stopLeaf, lesserOf, belowOf}
 use Rattle.gateway.specs.Parting.{sharedFrom, sharedOf, forkOf, haltOf, partsOf, onlyFrom, remainsOf}

@@ -8,6 +8,7 @@ use native.Mathlib.Omega.{arith}
 use lib.Dec.{eqb}
 use lib.ListN.{length, length-append}
 use borrow.Author.Tests.{eq-eqb, le-leb, le-ltb, leb-true, eqb-true}
+use Rattle.skiplist.proofs.Cases.{both}
 use Rattle.octets.specs.Numbers.{be, numberAt, Bytes}
 use Rattle.octets.specs.Runs.{patch, part}
 use Rattle.octets.proofs.PatchLaws.{patch-next, patch-all}
@@ -15,7 +16,6 @@ use Rattle.octets.proofs.PartLaws.{part-add, part-all, part-middle}
 use Rattle.octets.proofs.NumberLaws.{read-middle, write-back}
 use Rattle.refusals.specs.declared.Verdict.the-variants.{Done}
 use Rattle.commands.specs.declared.Metadata.{Metadata}
-use Rattle.proofbytes.proofs.FormLaws.{both}
 use Rattle.gateway.specs.declared.saved.Saved.{Saved}
 use Rattle.gateway.specs.declared.saved.Loaded.{Loaded}
 use Rattle.gateway.specs.Saving.{savedBytes, saveOf, asStated, loadOf, Saves, Loads}

@@ -18,12 +18,13 @@ use Rattle.skiplist.specs.Label as label
 use Rattle.skiplist.specs.Equal.{is, item-discrete, side-discrete, same}
 use Rattle.skiplist.specs.Blocks.{itemOf}
 use Rattle.skiplist.proofs.EqualLaws.{same-equal, same-true}
+use Rattle.skiplist.proofs.Cases.{both}
 use Rattle.proofbytes.specs.declared.read.Fields.{Fields}
 use Rattle.proofbytes.specs.declared.read.Beside.{Beside}
 use Rattle.proofbytes.specs.Writing.{entryBytes}
 use Rattle.proofbytes.specs.Reading.{at, entryOf, sideFrom, entryAt, countOf}
 use Rattle.proofbytes.specs.Form.{wellFormed}
-use Rattle.proofbytes.proofs.FormLaws.{both, form-sized}
+use Rattle.proofbytes.proofs.FormLaws.{form-sized}
 use Rattle.proofbytes.proofs.ReadingLaws.{fields-same}
 use Rattle.proofbytes.proofs.WrittenBack.{entry-bytes}
 use Rattle.labels.specs.declared.Side as code

@@ -8,7 +8,7 @@ use mathlib.Core.List.{List}
 use lib.Dec.{leb, ltb}
 use lib.ListN.{length, getD}
 use borrow.Author.Tests.{lt-leb, leb-true}
-use Rattle.proofbytes.proofs.FormLaws.{both}
+use Rattle.skiplist.proofs.Cases.{both}
 use Rattle.jointbytes.specs.Reading.{ahead}
 
 abbrev pub isEntry : List ℕ → ℕ → Bool

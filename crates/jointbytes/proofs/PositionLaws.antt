@@ -10,7 +10,7 @@ use lib.Dec.{leb}
 use lib.ListN.{length, getD, drop, drop-of-length-le}
 use lib.Seq.{drop-cons}
 use borrow.Author.Tests.{lt-ltb, le-ltb, le-leb, lt-leb, leb-true}
-use Rattle.proofbytes.proofs.FormLaws.{both}
+use Rattle.skiplist.proofs.Cases.{both}
 use Rattle.jointbytes.specs.Positions.{rises, rising, isSet, within}
 
 pub rising-start : (ps : List ℕ) → rising ps ≡ rises (getD ps (1 - 1) 0) (drop 1 ps)

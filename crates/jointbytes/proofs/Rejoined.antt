@@ -10,11 +10,11 @@ use native.Mathlib.Numerals.{add-one}
 use lib.ListN.{length, getD, take, drop, length-drop, take-append-drop}
 use lib.Seq.{length-take-le, drop-at, drop-cons, drop-drop, drop-length}
 use borrow.Author.Tests.{leb-true, eqb-true}
+use Rattle.skiplist.proofs.Cases.{both}
 use Rattle.octets.specs.Numbers.{be, numberAt, Bytes}
 use Rattle.octets.specs.Runs.{part}
 use Rattle.octets.proofs.NumberLaws.{write-back}
 use Rattle.octets.proofs.PartLaws.{part-none, part-add}
-use Rattle.proofbytes.proofs.FormLaws.{both}
 use Rattle.jointbytes.specs.Spelling.{joined, common, laterBytes, bodyBytes, jointHead, jointBytes}
 use Rattle.jointbytes.specs.Reading.{pieceOf, stopAt, endOf, stopStands, recordsFrom, spelledEntries, proofOf}
 use Rattle.jointbytes.specs.Form.{headFits, sharesMost, laterFit, jointFits}

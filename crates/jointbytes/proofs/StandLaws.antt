@@ -12,8 +12,7 @@ use lib.ListN.{length, getD, take, drop, length-append, drop-of-length-le, List�
 use lib.Seq.{length-take-le, getD-append-add, getD-take, drop-cons}
 use borrow.Author.Tests.{leb-true, leb-false, le-leb, lt-leb, eq-eqb, ne-eqb}
 use Rattle.octets.specs.Runs.{part, same}
-use Rattle.skiplist.proofs.Cases.{order}
-use Rattle.proofbytes.proofs.FormLaws.{both}
+use Rattle.skiplist.proofs.Cases.{order, both}
 use Rattle.jointbytes.specs.declared.read.Piece.{Piece}
 use Rattle.jointbytes.specs.Spelling.{common}
 use Rattle.jointbytes.specs.Reading.{nextOf, pieceOf, endOf, stopStands, recordsFrom, spelledEntries}

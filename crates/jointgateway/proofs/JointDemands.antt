@@ -19,13 +19,12 @@ use Rattle.refusals.specs.declared.Verdict.the-variants.{Done}
 use Rattle.refusals.specs.Order.{verdictOf, settled}
 use Rattle.refusals.proofs.OrderLaws.{done-none, none-done, verdict-append, append-done}
 use Rattle.skiplist.specs.Blocks.{zeros, shown, tagAt}
-use Rattle.skiplist.proofs.Cases.{order}
+use Rattle.skiplist.proofs.Cases.{order, both}
 use Rattle.skiplist.proofs.ClashLaws.{Within, within-left, within-right, clash-within}
 use Rattle.commands.specs.declared.Metadata.{Metadata}
 use Rattle.commands.specs.declared.Operation.the-variants.{Read}
 use Rattle.commands.proofs.RangeLaws.{range-admitted}
 use Rattle.proofbytes.specs.Reading.{placeOf}
-use Rattle.proofbytes.proofs.FormLaws.{both}
 use Rattle.proofbytes.proofs.WrittenBack.{formed-writable}
 use Rattle.proofbytes.proofs.ReadBack.{shown-length}
 use Rattle.jointbytes.specs.Positions.{isSet, within}

@@ -11,8 +11,8 @@ use lib.Dec.{leb, ltb}
 use lib.ListN.{length, drop, getD, drop-of-length-le}
 use lib.Seq.{drop-cons}
 use borrow.Author.Tests.{leb-true, ltb-true, lt-leb, le-leb}
+use Rattle.skiplist.proofs.Cases.{both}
 use Rattle.archive.specs.Reading.{countOf}
-use Rattle.archive.proofs.SoundLaws.{both}
 use Rattle.proofbytes.specs.Layout.{mostEntries}
 use Rattle.jointbytes.specs.Layout.{mostPositions}
 use Rattle.jointbytes.specs.Positions.{rises, isSet, within}

@@ -12,9 +12,9 @@ use borrow.Author.Tests.{le-leb, le-ltb, leb-true}
 use Rattle.octets.specs.Runs.{patch}
 use Rattle.refusals.specs.declared.Verdict.the-variants.{Done}
 use Rattle.skiplist.specs.Blocks.{Block, WithinLimits, wayTo}
+use Rattle.skiplist.proofs.Cases.{both}
 use Rattle.archive.specs.Form.{imageOf}
 use Rattle.archive.specs.Reading.{countOf, sound}
-use Rattle.archive.proofs.SoundLaws.{both}
 use Rattle.archive.proofs.ImageLaws.{image-count, image-read, image-sound}
 use Rattle.proofbytes.specs.Layout.{mostEntries}
 use Rattle.jointbytes.specs.Positions.{isSet, within}

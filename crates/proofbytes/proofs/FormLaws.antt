@@ -14,6 +14,7 @@ use Rattle.octets.specs.Runs.{allZero}
 use Rattle.sha256.specs.Hash.{sha256}
 use Rattle.skiplist.specs.Recompute.{provedPosition, provedRank}
 use Rattle.skiplist.specs.Label.{sides}
+use Rattle.skiplist.proofs.Cases.{both}
 use Rattle.proofbytes.specs.declared.read.Fields.{Fields}
 use Rattle.proofbytes.specs.declared.read.Beside.{Beside}
 use Rattle.proofbytes.specs.declared.read.Judged.{Judged}
@@ -22,10 +23,6 @@ use Rattle.proofbytes.specs.declared.read.Judged.the-variants.{Unfit, Fi
 use Rattle.proofbytes.specs.Reading.{countOf, Sized, placeOf}
 use Rattle.proofbytes.specs.Form.{within, downOf, rightOf, leafFits, passOf, judgedOf, besideFits, stopFits}
 use Rattle.proofbytes.specs.Form.{headerFits, walkFits, wellFormed, formedOf}
-
-pub both : (a b : Bool) → a && b ≡ true → (a ≡ true) × (b ≡ true)
-both true b e = (refl, e)
-both false b e = let z : _≡_ {A = ℕ} 0 1 = cc in absurd (omega arith)
 
 unfit : {P : Type 0} {n : ℕ} → Unfit ≡ Fits n → P
 unfit e = let z : _≡_ {A = ℕ} 0 1 = cc in absurd (omega arith)

@@ -22,6 +22,7 @@ use Rattle.skiplist.specs.Check.{WellFormed}
 use Rattle.skiplist.specs.Limits.{mostHeight}
 use Rattle.skiplist.specs.Label.{Side, nothing}
 use Rattle.skiplist.specs.Blocks.{Sent, itemOf, shown}
+use Rattle.skiplist.proofs.Cases.{both}
 use Rattle.proofbytes.specs.declared.read.Beside.{Beside}
 use Rattle.proofbytes.specs.declared.read.Judged.{Judged}
 use Rattle.proofbytes.specs.declared.read.Judged.the-variants.{Unfit, Fits}
@@ -32,7 +33,7 @@ use Rattle.proofbytes.specs.Reading.{placeOf}
 use Rattle.proofbytes.specs.Form.{judgedOf, leafFits, besideFits, stopFits, fitting, entriesFit, headerFits}
 use Rattle.proofbytes.specs.Form.{walkFits, wellFormed, AllFit, BesideFits, Writable}
 use Rattle.proofbytes.proofs.ReadingLaws.{entry-down, entry-right, entry-pass, length-entries}
-use Rattle.proofbytes.proofs.FormLaws.{both, leaf-cases, beside-cases, Fitting, is-down, is-right, is-pass}
+use Rattle.proofbytes.proofs.FormLaws.{leaf-cases, beside-cases, Fitting, is-down, is-right, is-pass}
 use Rattle.proofbytes.proofs.FormLaws.{fitting-cases, StopFitting, stop-fitting, Headed, form-headed}
 use Rattle.proofbytes.proofs.FormLaws.{form-sized}
 
