@@ -20,6 +20,7 @@ use Rattle.refusals.proofs.OrderLaws.{done-refused, verdict-append, verdict-fir
 use Rattle.skiplist.specs.Label.{Side}
 use Rattle.skiplist.specs.Equal.{side-discrete}
 use Rattle.skiplist.specs.Meeting.{meets}
+use Rattle.skiplist.specs.Recompute.{provedRank}
 use Rattle.skiplist.specs.Blocks.{shown, blockItem, column}
 use Rattle.skiplist.specs.Edits.{replaced, inserted}
 use Rattle.labels.specs.declared.Side as code
@@ -148,6 +149,13 @@ module _ (s : List ℕ) (m : Metadata) (small : m .count ≤ 4096) (passed : Pas
       ∙ metadata-is (inserted-is s (countOf s) (column (record { height = h; tag = tag }))
       (omega (arith, total s m small passed)))
 
+-- Insert's, with no word of metadata: what a proof proves bounds it
+pub insert-of : (s : List ℕ) → wellFormed s ≡ true → provedRank 𝓢 (placeOf s) ≤ 4096 → (h : ℕ) (tag : List ℕ) {k : ℕ} {x : code.Side}
+    {n : Metadata} → k ≡ countOf s → x ≡ inserted coded (column (record { height = h; tag = tag })) (codedPlace s k)
+    → n ≡ metadataFrom x → n ≡ insertedOf h tag s
+insert-of s formed few h tag =
+    insert-new s (record { count = provedRank 𝓢 (placeOf s); label = [] }) few (record { formed = formed; counted = refl }) h tag
+
 -- DELETE
 module _ (m : Metadata) (small : m .count ≤ 4096) (a b : List ℕ) (ba : Bytes a) (bb : Bytes b) (pa : Passed a m)
     (pb : Passed b m)
@@ -245,6 +253,7 @@ module _ (m : Metadata) (k : Command) (a b : List ℕ) where
   unfolding gatewayOf
   opening-refused {why} e = sym (rw (verdict-first (openingRules m k) _ why e))
 
+module _ (m : Metadata) (k : Command) where
   pub over-count : ltb 4096 (m .count) ≡ true → verdictOf (openingRules m k) ≡ Refused BadMetadata
   over-count e = rw e
 

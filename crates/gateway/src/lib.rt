@@ -1,14 +1,17 @@
 //! The gateway: metadata saved and loaded, and the check of a command with its proofs.
 ghost use mathlib.Core.Path.{_≡_};
+ghost use mathlib.Core.Bool.{true};
 ghost use mathlib.Core.List.{[]};
 ghost use Prim.Native.Nat.{_+_, _≤_};
 ghost use Rattle.refusals.specs.declared.Verdict.the-variants.{Done};
 ghost use Rattle.refusals.specs.Order.{verdictOf};
 ghost use Rattle.skiplist.specs.Limits.{mostBlocks};
+ghost use Rattle.skiplist.specs.Recompute.{provedRank};
 ghost use Rattle.skiplist.specs.Blocks.{shown as shown_is};
-ghost use Rattle.refusals.specs.declared.Which.the-variants.{First};
 ghost use Rattle.commands.specs.declared.Operation.the-variants.{Insert};
 ghost use Rattle.proofbytes.specs.Reading.{Sized, placeOf};
+ghost use Rattle.proofbytes.specs.Form.{wellFormed};
+ghost use Rattle.gateway.specs.Checking.{𝓢};
 ghost use Rattle.gateway.specs.Climbing.{belowOf};
 ghost use Rattle.gateway.specs.Parting.{sharedOf};
 ghost use Rattle.gateway.specs.Working.{findingOf, blamed, Passed};
@@ -41,7 +44,7 @@ pub struct Answer {
 }
 
 // A refusal returns the metadata given and a zero tag.
-fn refused(m: Metadata, why: Refusal) -> Answer
+pub fn refused(m: Metadata, why: Refusal) -> Answer
     ensures { λ r. ⌜ r ≡ refusedOf m why ⌝ }
 {
     Answer {
@@ -95,14 +98,14 @@ fn metadata_of(x: Side) -> Metadata
     }
 }
 
-// The checks of the first proof.
-fn first_verdict(m: Metadata, p: u64, s: &[u8]) -> Verdict
+// The checks of one proof, for position p.
+pub fn proof_verdict(w: Which, m: Metadata, p: u64, s: &[u8]) -> Verdict
     requires { ⌜ m .count ≤ mostBlocks ⌝ }
-    ensures { λ r. ⌜ r ≡ blamed First (findingOf (now (s .entry)) p m) ⌝ }
+    ensures { λ r. ⌜ r ≡ blamed w (findingOf (now (s .entry)) p m) ⌝ }
 {
     let x = examine::examine(s, p, m, 0);
     let f = x.finding;
-    blame(f, Which::First)
+    blame(f, w)
 }
 
 // "Read p: reports the tag, metadata stays."
@@ -110,7 +113,7 @@ fn read(m: Metadata, p: u64, s: &[u8]) -> Answer
     requires { ⌜ m .count ≤ mostBlocks ⌝ }
     ensures { λ r. ⌜ r ≡ oneOf m p (now (s .entry)) [] m ⌝ }
 {
-    let v = first_verdict(m, p, s);
+    let v = proof_verdict(Which::First, m, p, s);
     match v {
         Verdict::Refused(why) => refused(m, why),
         Verdict::Done => accepted(shown(s), m),
@@ -122,7 +125,7 @@ fn replace(m: Metadata, p: u64, tag: [u8; 32], s: &[u8]) -> Answer
     requires { ⌜ m .count ≤ mostBlocks ⌝ }
     ensures { λ r. ⌜ r ≡ oneOf m p (now (s .entry)) [] (replacedOf tag (now (s .entry))) ⌝ }
 {
-    let v = first_verdict(m, p, s);
+    let v = proof_verdict(Which::First, m, p, s);
     match v {
         Verdict::Refused(why) => refused(m, why),
         Verdict::Done => {
@@ -132,21 +135,29 @@ fn replace(m: Metadata, p: u64, tag: [u8; 32], s: &[u8]) -> Answer
     }
 }
 
+// Insert's answer from a proof that passed.
+pub fn inserted(height: u8, tag: [u8; 32], s: &[u8]) -> Answer
+    requires { ⌜ (wellFormed (now s) ≡ true) × (provedRank 𝓢 (placeOf (now s)) ≤ mostBlocks) ⌝ }
+    ensures { λ r. ⌜ r ≡ acceptedOf (shown_is (placeOf (now (s .entry)) .item)) (insertedOf height tag (now (s .entry))) ⌝ }
+{
+    let x = predict::insert(s, proofbytes::read::entry_count(s), height, tag);
+    accepted(shown(s), metadata_of(x))
+}
+
 // "Insert after p a tag with a height": not the tag at p.
 fn insert(m: Metadata, p: u64, height: u8, tag: [u8; 32], s: &[u8]) -> Answer
     requires { ⌜ m .count ≤ mostBlocks ⌝ }
     ensures { λ r. ⌜ r ≡ oneOf m p (now (s .entry)) (laterRules Insert m p tag (now (s .entry)) [])
         (insertedOf height tag (now (s .entry))) ⌝ }
 {
-    let v = first_verdict(m, p, s);
+    let v = proof_verdict(Which::First, m, p, s);
     match v {
         Verdict::Refused(why) => refused(m, why),
         Verdict::Done => {
             if commands::repeated(p, tag, shown(s)) {
                 return refused(m, Refusal::Repeated);
             }
-            let x = predict::insert(s, proofbytes::read::entry_count(s), height, tag);
-            accepted(shown(s), metadata_of(x))
+            inserted(height, tag, s)
         }
     }
 }
@@ -218,16 +229,23 @@ fn work(m: Metadata, k: Command, first: &[u8], second: &[u8]) -> Answer
     }
 }
 
+// The checks before any proof is looked at: 12, 2, 3, 4.
+pub fn opened(m: Metadata, k: Command) -> Verdict
+    ensures { λ r. ⌜ r ≡ verdictOf (openingRules m k) ⌝ }
+{
+    let count = m.count;
+    if MOST_BLOCKS < count {
+        return Verdict::Refused(Refusal::BadMetadata);
+    }
+    commands::admitted(k, count)
+}
+
 // The gateway's check of a command. What rides along is not looked at: a height with another command than Insert, a
 // second proof with another than Delete.
 pub fn check(m: Metadata, k: Command, first: &[u8], second: &[u8]) -> Answer
     ensures { λ r. ⌜ Checks m k (now (first .entry)) (now (second .entry)) r ⌝ }
 {
-    let count = m.count;
-    if MOST_BLOCKS < count {
-        return refused(m, Refusal::BadMetadata);
-    }
-    let v = commands::admitted(k, count);
+    let v = opened(m, k);
     match v {
         Verdict::Refused(why) => refused(m, why),
         Verdict::Done => work(m, k, first, second),

@@ -16,7 +16,7 @@ use refusals::Refusal;
 use refusals::Verdict;
 
 // The most bytes of readings that a block has: with the seven bytes before them the longest message.
-const MOST_READINGS: usize = 4089;
+pub const MOST_READINGS: usize = 4089;
 
 pub struct Tagged {
     pub verdict: Verdict,

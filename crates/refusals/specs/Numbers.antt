@@ -7,7 +7,8 @@ use Rattle.refusals.specs.declared.Which.the-variants.{First, Second, Pl
 use Rattle.refusals.specs.declared.Refusal.{Refusal}
 use Rattle.refusals.specs.declared.Refusal.the-variants.{BadImage, BadPosition, BadHeight, Full, NoRoom, TooDeep}
 use Rattle.refusals.specs.declared.Refusal.the-variants.{BadProof, WrongPosition, WrongLabel, NotNeighbours}
-use Rattle.refusals.specs.declared.Refusal.the-variants.{LongMessage, BadMetadata, BadSet, Repeated}
+use Rattle.refusals.specs.declared.Refusal.the-variants.{LongMessage, BadMetadata, BadSet, Repeated, OutOfTime}
+use Rattle.refusals.specs.declared.Refusal.the-variants.{WrongBlock}
 use Rattle.refusals.specs.declared.Verdict.{Verdict}
 use Rattle.refusals.specs.declared.Verdict.the-variants.{Done, Refused}
 
@@ -26,6 +27,8 @@ numberOf LongMessage = 11
 numberOf BadMetadata = 12
 numberOf BadSet = 13
 numberOf Repeated = 14
+numberOf OutOfTime = 15
+numberOf WrongBlock = 16
 
 -- nothing refused is 0
 abbrev pub verdictNumber : Verdict → ℕ
@@ -53,3 +56,5 @@ proofOf LongMessage = 0
 proofOf BadMetadata = 0
 proofOf BadSet = 0
 proofOf Repeated = 0
+proofOf OutOfTime = 0
+proofOf WrongBlock = 0

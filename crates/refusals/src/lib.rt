@@ -27,6 +27,8 @@ pub enum Refusal {
     BadMetadata,
     BadSet,
     Repeated,
+    OutOfTime,
+    WrongBlock,
 }
 
 pub enum Verdict {
@@ -53,6 +55,8 @@ pub fn number(r: Refusal) -> u8
         Refusal::BadMetadata => 12,
         Refusal::BadSet => 13,
         Refusal::Repeated => 14,
+        Refusal::OutOfTime => 15,
+        Refusal::WrongBlock => 16,
     }
 }
 
@@ -104,5 +108,7 @@ pub fn proof(r: Refusal) -> u8
         Refusal::BadMetadata => 0,
         Refusal::BadSet => 0,
         Refusal::Repeated => 0,
+        Refusal::OutOfTime => 0,
+        Refusal::WrongBlock => 0,
     }
 }

@@ -9,8 +9,8 @@ use borrow.Author.Needs.{needs}
 use Rattle.gateway.proofs.read.Statement.{statement}
 use Rattle.gateway.proofs.read.Tie as tie
 
-first-verdict-requires : tie.Need-first-verdict-requires
-first-verdict-requires c κs = search needs
+proof-verdict-requires : tie.Need-proof-verdict-requires
+proof-verdict-requires c κs = search needs
 
 enum-known-v : tie.Need-enum-known-v
 enum-known-v c = search needs
@@ -26,7 +26,7 @@ shown-requires c κs =
     let v = c .before .before in
     let a = v .before .before .args in
     form-sized (a .s .now) (fine-passed (a .s .now) (a .p) (a .m)
-    (one-fine (a .m) (a .p) (a .s .now) (v .first-verdict .ensures) (c .enum-told .given .1)) .formed)
+    (one-fine (a .m) (a .p) (a .s .now) (v .proof-verdict .ensures) (c .enum-told .given .1)) .formed)
 
 accepted-requires : tie.Need-accepted-requires
 accepted-requires c κs = search needs
@@ -36,7 +36,7 @@ returns c =
     let k = c .before .before in
     let v = k .before .before in
     let a = v .before .before .args in
-    c .refused .ensures ∙ one-refused (a .m) (a .p) (a .s .now) (v .first-verdict .ensures) [] (a .m) (k .v .given .1)
+    c .refused .ensures ∙ one-refused (a .m) (a .p) (a .s .now) (v .proof-verdict .ensures) [] (a .m) (k .v .given .1)
 
 returns-2 : tie.Need-returns-2
 returns-2 c =
@@ -44,14 +44,14 @@ returns-2 c =
     let k = h .before in
     let v = k .before .before in
     let a = v .before .before .args in
-    c .accepted .ensures ∙ one-done (a .m) (a .p) (a .s .now) (v .first-verdict .ensures) [] (a .m)
+    c .accepted .ensures ∙ one-done (a .m) (a .p) (a .s .now) (v .proof-verdict .ensures) [] (a .m)
     (k .enum-told .given .1) refl (h .shown .ensures) refl
 
 pub read-spec : {M : Type 1} → statement M
 read-spec =
     tie.close
     (tie.spec
-    first-verdict-requires
+    proof-verdict-requires
     enum-known-v
     refused-requires
     enum-told

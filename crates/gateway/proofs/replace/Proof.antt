@@ -11,8 +11,8 @@ use borrow.Author.Needs.{needs}
 use Rattle.gateway.proofs.replace.Statement.{statement}
 use Rattle.gateway.proofs.replace.Tie as tie
 
-first-verdict-requires : tie.Need-first-verdict-requires
-first-verdict-requires c κs = search needs
+proof-verdict-requires : tie.Need-proof-verdict-requires
+proof-verdict-requires c κs = search needs
 
 enum-known-v : tie.Need-enum-known-v
 enum-known-v c = search needs
@@ -31,7 +31,7 @@ replace-requires c κs =
     let k = c .before in
     let v = k .before .before in
     let a = v .before .before .args in
-    let g = fine-passed (a .s .now) (a .p) (a .m) (one-fine (a .m) (a .p) (a .s .now) (v .first-verdict .ensures) (k .enum-told .given .1)) in
+    let g = fine-passed (a .s .now) (a .p) (a .m) (one-fine (a .m) (a .p) (a .s .now) (v .proof-verdict .ensures) (k .enum-told .given .1)) in
     let s = form-sized (a .s .now) (g .formed) in
     omega (arith, s .long, c .entry-count .ensures)
 
@@ -41,7 +41,7 @@ shown-requires c κs =
     let v = k .before .before in
     let a = v .before .before .args in
     form-sized (a .s .now) (fine-passed (a .s .now) (a .p) (a .m)
-    (one-fine (a .m) (a .p) (a .s .now) (v .first-verdict .ensures)
+    (one-fine (a .m) (a .p) (a .s .now) (v .proof-verdict .ensures)
     (k .enum-told .given .1)) .formed)
 
 metadata-of-requires : tie.Need-metadata-of-requires
@@ -55,7 +55,7 @@ returns c =
     let k = c .before .before in
     let v = k .before .before in
     let a = v .before .before .args in
-    c .refused .ensures ∙ one-refused (a .m) (a .p) (a .s .now) (v .first-verdict .ensures) []
+    c .refused .ensures ∙ one-refused (a .m) (a .p) (a .s .now) (v .proof-verdict .ensures) []
     (replacedOf (a .tag) (a .s .now)) (k .v .given .1)
 
 returns-2 : tie.Need-returns-2
@@ -67,8 +67,8 @@ returns-2 c =
     let v = k .before .before in
     let z = v .before .before in
     let a = z .args in
-    let g = fine-passed (a .s .now) (a .p) (a .m) (one-fine (a .m) (a .p) (a .s .now) (v .first-verdict .ensures) (k .enum-told .given .1)) in
-    c .accepted .ensures ∙ one-done (a .m) (a .p) (a .s .now) (v .first-verdict .ensures) []
+    let g = fine-passed (a .s .now) (a .p) (a .m) (one-fine (a .m) (a .p) (a .s .now) (v .proof-verdict .ensures) (k .enum-told .given .1)) in
+    c .accepted .ensures ∙ one-done (a .m) (a .p) (a .s .now) (v .proof-verdict .ensures) []
     (replacedOf (a .tag) (a .s .now)) (k .enum-told .given .1) refl (h .shown .ensures)
     (replace-new (a .s .now) (a .m) (z .pre) g (a .tag) (x .before .entry-count .ensures) (x .replace .ensures)
     (n .metadata-of .ensures))
@@ -77,7 +77,7 @@ pub replace-spec : {M : Type 1} → statement M
 replace-spec =
     tie.close
     (tie.spec
-    first-verdict-requires
+    proof-verdict-requires
     enum-known-v
     refused-requires
     enum-told
