@@ -1,0 +1,4 @@
+pub mod Filing
+pub mod Working
+pub mod Archive
+pub mod Demand
