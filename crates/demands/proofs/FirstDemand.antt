@@ -21,6 +21,7 @@ use Rattle.gateway.specs.Gateway.{gatewayRules, gatewayOf}
 use Rattle.shapes.specs.Shape.{shapeRules, shapeOf, shapeAfter}
 use Rattle.jointstore.specs.Answers as jointstore
 use Rattle.jointgateway.specs.Joint as joint
+use Rattle.filer.specs.Filing.{filingRules, filedOf}
 use Rattle.demands.specs.Placed.{digestRules, checkRules}
 use Rattle.demands.specs.FirstDemand.{FirstDemand}
 use Rattle.demands.proofs.Laws.{refuses, refused-settled}
@@ -39,7 +40,7 @@ digest-zeros m r e = go (order longest (length m))
 pub first-demand : FirstDemand
 unfolding tagOf matchOf saveOf loadOf checkVerdict checkOf proveVerdict proveOf bufferAfter
     applyVerdict applyOf imageAfter shapeOf shapeAfter gatewayOf
-    jointstore.jointVerdict jointstore.jointOf jointstore.bufferAfter joint.jointOf
+    jointstore.jointVerdict jointstore.jointOf jointstore.bufferAfter joint.jointOf filedOf
 first-demand = record {
   digest = λ m r a. refuses _ (digestRules m) _ (a .verdict ∙ digest-rules m) refl
       (λ w e. a .bytes ∙ digest-zeros m w e);
@@ -66,4 +67,6 @@ first-demand = record {
       (λ w e. (a .bytes ∙ refused-settled _ w _ _ e, a .entries, a .buffer ∙ refused-settled _ w _ _ e));
   joint-check = λ m ps s r a. refuses _ (joint.jointRules m ps s) _ (a .verdict) (joint-numbers m ps s)
       (λ w e. (a .number ∙ refused-settled _ w _ _ e, a .tags ∙ refused-settled _ w _ _ e, a .metadata));
+  file = λ m q first second r a. refuses _ (filingRules m q first second) _ (a .verdict) refl
+      (λ w e. (a .tag ∙ refused-settled _ w _ _ e, a .metadata ∙ refused-settled _ w _ _ e));
 }

@@ -8,4 +8,5 @@ pub mod ThirdDemand
 pub mod TaggedBlocks
 pub mod MorningCheck
 pub mod SentTwice
+pub mod LateFiler
 pub mod Theorems

@@ -21,6 +21,7 @@ use Rattle.store.specs.Answers.{applyRules, applyVerdict, applyOf}
 use Rattle.gateway.specs.Saving.{saveRules, saveOf, loadRules, loadOf}
 use Rattle.gateway.specs.Gateway.{laterRules, gatewayRules, gatewayOf}
 use Rattle.shapes.specs.Shape.{shapeRules, shapeOf}
+use Rattle.filer.specs.Filing.{filingRules, filedOf}
 use Rattle.demands.specs.Words.{numbers, proofs, laterNumbers, gatewayNumbers, laterProofs}
 use Rattle.demands.specs.Words.{placeNumbers, jointNumbers, placesFrom}
 use Rattle.jointstore.specs.Answers as jointstore
@@ -71,7 +72,7 @@ place-places s m i (p ∷ ps) = ap (λ ns. suc i ∷ suc i ∷ suc i ∷ ns) (pl
 
 pub all-placed : Placed
 unfolding tagOf matchOf saveOf loadOf checkVerdict checkOf proveVerdict proveOf applyVerdict applyOf shapeOf gatewayOf
-    jointstore.jointVerdict jointstore.jointOf joint.jointOf
+    jointstore.jointVerdict jointstore.jointOf joint.jointOf filedOf
 all-placed = record {
   digest = λ m. placed _ (digestRules m) _ (digest-rules m) refl;
   tag = λ time readings. placed _ (tagRules readings) _ refl refl;
@@ -87,4 +88,6 @@ all-placed = record {
   joint-check = λ m ps s. placed _ (joint.jointRules m ps s) _ refl (joint-numbers m ps s);
   joint-which = λ m ps s. ap (λ ns. 0 ∷ 0 ∷ 0 ∷ 0 ∷ ns) (place-places s m 0 ps);
   which = λ m k first second. rw (later-proofs (k .operation) m (k .position) (k .tag) first second);
+  file = λ m q first second. placed _ (filingRules m q first second) _ refl refl;
+  file-which = λ m q first second. refl;
 }

@@ -12,6 +12,8 @@ pub use Rattle.demands.proofs.TaggedBlocks.{tagged-blocks}
 pub use Rattle.demands.proofs.MorningCheck.{morning-check}
 -- Ask 4: a block that comes again, which store and gateway refuse alike.
 pub use Rattle.demands.proofs.SentTwice.{sent-twice}
+-- Ask 5: the late filer keeps the archive in time order, and takes the place that the store finds.
+pub use Rattle.demands.proofs.LateFiler.{late-filer}
 -- P1 to P10, with any tags.
 pub use Rattle.demands.proofs.RowOfFive.{row-of-five}
 -- Two outcomes that satisfy a pledge are equal.

@@ -11,6 +11,8 @@ use Rattle.gateway.proofs.Pledge as gateway
 use Rattle.shapes.proofs.ShapeLaws.{shape-unique}
 use Rattle.jointstore.proofs.Unique as jointstore
 use Rattle.jointgateway.proofs.Answers as joint
+use Rattle.times.specs.Times.{placeFor}
+use Rattle.filer.proofs.Pledge.{file-unique}
 use Rattle.demands.specs.Uniqueness.{Uniqueness}
 use Rattle.demands.proofs.Laws.{settled-unique, both-unique}
 
@@ -29,4 +31,6 @@ uniqueness = record {
   gateway = gateway.check-unique;
   joint-prove = λ b ps lent at. both-unique _ (jointstore.prove-unique b ps lent at);
   joint-check = joint.check-unique;
+  file = file-unique;
+  place = λ times time. settled-unique (λ (r : ℕ). r ≡ placeFor times time) (placeFor times time) (λ r e. e);
 }

@@ -35,7 +35,8 @@ use Rattle.shapes.specs.Shape.{Shapes}
 use Rattle.jointstore.specs.Pledges as jointstore
 use Rattle.jointgateway.specs.declared.Answer as jointgateway
 use Rattle.jointgateway.specs.Joint as joint
-use Rattle.demands.specs.Words.{gatewayNumbers, jointNumbers, Refuses}
+use Rattle.filer.specs.Filing.{Proposal, Files}
+use Rattle.demands.specs.Words.{gatewayNumbers, filerNumbers, jointNumbers, Refuses}
 
 pub record FirstDemand : Type 0 where
   -- digest, and digest_joined, whose message m is its two parts joined
@@ -65,3 +66,6 @@ pub record FirstDemand : Type 0 where
       → Refuses (r .verdict) (1 ∷ 13 ∷ 2 ∷ 6 ∷ 5 ∷ []) ((r .length ≡ 0) × (r .entries ≡ 0) × (after ≡ lent))
   pub joint-check : (m : Metadata) (ps s : List ℕ) (r : jointgateway.Answer) → joint.Checks m ps s r
       → Refuses (r .verdict) (jointNumbers (length ps)) ((r .number ≡ 0) × (r .tags ≡ joint.noTags) × (r .metadata ≡ m))
+  -- ask 5: the late filer
+  pub file : (m : Metadata) (q : Proposal) (first second : List ℕ) (r : Answer) → Files m q first second r
+      → Refuses (r .verdict) filerNumbers ((r .tag ≡ zeros) × (r .metadata ≡ m))

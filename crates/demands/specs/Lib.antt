@@ -6,5 +6,6 @@ pub mod ThirdDemand
 pub mod TaggedBlocks
 pub mod MorningCheck
 pub mod SentTwice
+pub mod LateFiler
 pub mod RowOfFive
 pub mod Uniqueness

@@ -1,7 +1,8 @@
 -- DEMAND 2, its last words: "a refusal comes exactly where document 01 puts it." For each call the rules of document
 -- 01's table in the order that document 01 gives ("Order. Prove: 1, 2, 6, 5. Apply: 1, 2, 3, 4, 5. Gateway: 12, 2, 3,
 -- 4, then 7, 8, 9 on the first proof, the same on the second, then 10.") and ask 4 adds to ("14 REPEATED, in the gateway after 9, in
--- Apply after 4 and before 5"), and the verdict is settled by the first that is due.
+-- Apply after 4 and before 5") and ask 5 ("11 .. first of all; 7, 8, 9 for the second proof, after all of Insert's own; then 16 ..; then
+-- 15"), and the verdict is settled by the first that is due.
 -- Assumes nothing.
 use Prim.Native.Nat.{ℕ}
 use mathlib.Core.Path.{_≡_}
@@ -22,7 +23,9 @@ use Rattle.gateway.specs.Gateway.{gatewayRules, gatewayOf}
 use Rattle.shapes.specs.Shape.{shapeRules, shapeOf}
 use Rattle.jointstore.specs.Answers as jointstore
 use Rattle.jointgateway.specs.Joint as joint
-use Rattle.demands.specs.Words.{proofs, gatewayNumbers, gatewayProofs, jointNumbers, jointPlaces, Exactly}
+use Rattle.filer.specs.Filing.{Proposal, filingRules, filedOf}
+use Rattle.demands.specs.Words.{proofs, gatewayNumbers, gatewayProofs, filerNumbers, filerProofs, jointNumbers, jointPlaces}
+use Rattle.demands.specs.Words.{Exactly}
 
 -- "11 LONG MESSAGE: over 4,096 bytes to digest"
 abbrev pub digestRules : List ℕ → List Rule
@@ -55,3 +58,7 @@ pub record Placed : Type 0 where
   pub joint-check : (m : Metadata) (ps s : List ℕ)
       → Exactly (joint.jointOf m ps s .verdict) (joint.jointRules m ps s) (jointNumbers (length ps))
   pub joint-which : (m : Metadata) (ps s : List ℕ) → proofs (joint.jointRules m ps s) ≡ jointPlaces (length ps)
+  -- ask 5: the late filer
+  pub file : (m : Metadata) (q : Proposal) (first second : List ℕ)
+      → Exactly (filedOf m q first second .verdict) (filingRules m q first second) filerNumbers
+  pub file-which : (m : Metadata) (q : Proposal) (first second : List ℕ) → proofs (filingRules m q first second) ≡ filerProofs

@@ -19,6 +19,8 @@ use Rattle.shapes.specs.declared.Shaped.{Shaped}
 use Rattle.shapes.specs.Shape.{Shapes}
 use Rattle.jointstore.specs.Pledges as jointstore
 use Rattle.jointgateway.specs.Joint as joint
+use Rattle.times.specs.Times.{placeFor}
+use Rattle.filer.specs.Filing.{Proposal, Files}
 use Rattle.demands.specs.Words.{Unique}
 
 pub record Uniqueness : Type 0 where
@@ -36,3 +38,5 @@ pub record Uniqueness : Type 0 where
   pub gateway : (m : Metadata) (k : Command) (first second : List ℕ) → Unique (gateway.Checks m k first second)
   pub joint-prove : (b ps lent : List ℕ) (at : ℕ) → Unique (λ (o : Proved × List ℕ). jointstore.Proves b ps lent at (o .0) (o .1))
   pub joint-check : (m : Metadata) (ps s : List ℕ) → Unique (joint.Checks m ps s)
+  pub file : (m : Metadata) (q : Proposal) (first second : List ℕ) → Unique (Files m q first second)
+  pub place : (times : List ℕ) (time : ℕ) → Unique (λ r. r ≡ placeFor times time)

@@ -47,6 +47,13 @@ laterProofs Delete = 2 ∷ 2 ∷ 2 ∷ 0 ∷ []
 abbrev pub gatewayProofs : Operation → List ℕ
 gatewayProofs o = 0 ∷ 0 ∷ 0 ∷ 0 ∷ 1 ∷ 1 ∷ 1 ∷ laterProofs o
 
+-- of the late filer: "11 .. first of all; 7, 8, 9 for the second proof, after all of Insert's own; then 16 ..; then 15"
+abbrev pub filerNumbers : List ℕ
+filerNumbers = 11 ∷ 12 ∷ 2 ∷ 3 ∷ 4 ∷ 7 ∷ 8 ∷ 9 ∷ 14 ∷ 7 ∷ 8 ∷ 9 ∷ 16 ∷ 15 ∷ []
+
+abbrev pub filerProofs : List ℕ
+filerProofs = 0 ∷ 0 ∷ 0 ∷ 0 ∷ 0 ∷ 1 ∷ 1 ∷ 1 ∷ 0 ∷ 2 ∷ 2 ∷ 2 ∷ 0 ∷ 0 ∷ []
+
 -- of a joint proof of n positions: "13 .. after 12; then 2; .. then 7 with place 0 .., then the first refusal of the spelled-out proofs,
 -- with its place"
 abbrev pub placeNumbers : ℕ → List ℕ
