@@ -23,6 +23,9 @@ use Rattle.gateway.specs.declared.saved.Loaded.{Loaded}
 use Rattle.gateway.specs.declared.Answer.{Answer}
 use Rattle.gateway.specs.Saving as saving
 use Rattle.gateway.specs.Gateway as gateway
+use Rattle.filer.specs.declared.Filing.{Filing}
+use Rattle.filer.specs.Filing as filer
+use Rattle.filer.specs.Filing.{proposed}
 use Rattle.jointstore.specs.Pledges as jointstore
 use Rattle.jointgateway.specs.declared.Answer.{Answer as JointAnswer}
 use Rattle.jointgateway.specs.Joint as jointgateway
@@ -30,9 +33,10 @@ use Rattle.quaythistle.specs.declared.plain.QtDigest.{QtDigest}
 use Rattle.quaythistle.specs.declared.plain.QtVerdict.{QtVerdict}
 use Rattle.quaythistle.specs.declared.plain.QtMetadata.{QtMetadata}
 use Rattle.quaythistle.specs.declared.plain.QtCommand.{QtCommand}
-use Rattle.quaythistle.specs.Plain.{plainVerdict, plainDigest, heldMetadata, shownMetadata, commandOf}
+use Rattle.quaythistle.specs.declared.plain.QtFiling.{QtFiling}
+use Rattle.quaythistle.specs.Plain.{plainVerdict, plainDigest, heldMetadata, shownMetadata, commandOf, filingOf}
 use Rattle.quaythistle.specs.Pledges.{Digests, Tags, Matches, Checks, Proves, Applies, Shapes, Saves, Loads, Answers}
-use Rattle.quaythistle.specs.Pledges.{ProvesJointly, AnswersJointly}
+use Rattle.quaythistle.specs.Pledges.{Files, ProvesJointly, AnswersJointly}
 
 pub as-digested
     : (m : List ℕ) (d : Digested) (v : QtVerdict) → sha256.Answers m d → v ≡ plainVerdict (d .verdict)
@@ -109,6 +113,25 @@ pub as-answered
 as-answered m k first second n j a v s held meant pledge said shown =
     let same : gateway.gatewayOf n j first second ≡ gateway.gatewayOf (heldMetadata m) (commandOf k) first second =
     λ i. gateway.gatewayOf (held i) (meant i) first second in
+    record {
+      verdict = said ∙ ap plainVerdict (pledge .verdict ∙ ap (λ (x : Answer). x .verdict) same);
+      tag = ap plainDigest (pledge .tag ∙ ap (λ (x : Answer). x .tag) same);
+      metadata = shown ∙ ap shownMetadata (pledge .metadata ∙ ap (λ (x : Answer). x .metadata) same);
+    }
+
+pub as-filed
+    : (m : QtMetadata) (f : QtFiling) (readings left right first second : List ℕ) (n : Metadata) (g : Filing) (a : Answer) (v : QtVerdict)
+    (s : QtMetadata)
+    → n ≡ heldMetadata m
+    → g ≡ filingOf f
+    → filer.Files n (proposed g readings left right) first second a
+    → v ≡ plainVerdict (a .verdict)
+    → s ≡ shownMetadata (a .metadata)
+    → Files m f readings left right first second (record { verdict = v; tag = plainDigest (a .tag); metadata = s })
+as-filed m f readings left right first second n g a v s held meant pledge said shown =
+    let same : filer.filedOf n (proposed g readings left right) first second
+    ≡ filer.filedOf (heldMetadata m) (proposed (filingOf f) readings left right) first second =
+    λ i. filer.filedOf (held i) (proposed (meant i) readings left right) first second in
     record {
       verdict = said ∙ ap plainVerdict (pledge .verdict ∙ ap (λ (x : Answer). x .verdict) same);
       tag = ap plainDigest (pledge .tag ∙ ap (λ (x : Answer). x .tag) same);

@@ -6,6 +6,7 @@ use mathlib.Core.List.{List}
 use Rattle.quaythistle.specs.declared.plain.QtDigest.{QtDigest}
 use Rattle.quaythistle.specs.declared.plain.QtMetadata.{QtMetadata}
 use Rattle.quaythistle.specs.declared.plain.QtCommand.{QtCommand}
+use Rattle.quaythistle.specs.declared.plain.QtFiling.{QtFiling}
 use Rattle.quaythistle.specs.declared.QtDigested.{QtDigested}
 use Rattle.quaythistle.specs.declared.QtMatched.{QtMatched}
 use Rattle.quaythistle.specs.declared.QtMetadataAnswer.{QtMetadataAnswer}
@@ -15,7 +16,7 @@ use Rattle.quaythistle.specs.declared.QtSaved.{QtSaved}
 use Rattle.quaythistle.specs.declared.QtAnswer.{QtAnswer}
 use Rattle.quaythistle.specs.declared.QtJointAnswer.{QtJointAnswer}
 use Rattle.quaythistle.specs.Pledges.{Digests, Tags, Matches, Draws, Checks, Proves, Applies, Shapes, Saves, Loads, Answers}
-use Rattle.quaythistle.specs.Pledges.{ProvesJointly, AnswersJointly}
+use Rattle.quaythistle.specs.Pledges.{Files, Places, ProvesJointly, AnswersJointly}
 
 pub digest-unique : (m : List ℕ) (r s : QtDigested) → Digests m r → Digests m s → r ≡ s
 digest-unique m r s p q = λ i. record { verdict = (p .verdict ∙ sym (q .verdict)) i; digest = (p .digest ∙ sym (q .digest)) i }
@@ -70,6 +71,21 @@ answer-unique m k first second r s p q =
       tag = (p .tag ∙ sym (q .tag)) i;
       metadata = (p .metadata ∙ sym (q .metadata)) i;
     }
+
+pub file-unique
+    : (m : QtMetadata) (f : QtFiling) (readings left right first second : List ℕ) (r s : QtAnswer)
+    → Files m f readings left right first second r
+    → Files m f readings left right first second s
+    → r ≡ s
+file-unique m f readings left right first second r s p q =
+    λ i. record {
+      verdict = (p .verdict ∙ sym (q .verdict)) i;
+      tag = (p .tag ∙ sym (q .tag)) i;
+      metadata = (p .metadata ∙ sym (q .metadata)) i;
+    }
+
+pub place-unique : (times : List ℕ) (time r s : ℕ) → Places times time r → Places times time s → r ≡ s
+place-unique times time r s p q = p .place ∙ sym (q .place)
 
 pub prove-jointly-unique
     : (b ps lent : List ℕ) (at : ℕ) (r s : QtProved) (x y : List ℕ) → ProvesJointly b ps lent at r x → ProvesJointly b ps lent at s y

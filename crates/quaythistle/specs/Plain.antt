@@ -11,10 +11,12 @@ use Rattle.commands.specs.declared.Metadata.{Metadata}
 use Rattle.commands.specs.declared.Operation.{Operation}
 use Rattle.commands.specs.declared.Operation.the-variants.{Read, Replace, Insert, Delete}
 use Rattle.commands.specs.declared.Command.{Command}
+use Rattle.filer.specs.declared.Filing.{Filing}
 use Rattle.quaythistle.specs.declared.plain.QtDigest.{QtDigest}
 use Rattle.quaythistle.specs.declared.plain.QtVerdict.{QtVerdict}
 use Rattle.quaythistle.specs.declared.plain.QtMetadata.{QtMetadata}
 use Rattle.quaythistle.specs.declared.plain.QtCommand.{QtCommand}
+use Rattle.quaythistle.specs.declared.plain.QtFiling.{QtFiling}
 
 -- "7, 8 and 9 also say which proof": 1 the first, 2 the second, 0 none; of a joint proof "with its place"
 abbrev pub verdictProof : Verdict → ℕ
@@ -65,4 +67,14 @@ commandOf k =
       position = positionOf (k .operation) (k .position);
       height = heightOf (k .height);
       tag = k .tag .bytes;
+    }
+
+abbrev pub filingOf : QtFiling → Filing
+filingOf f =
+    record {
+      position = f .position;
+      height = heightOf (f .height);
+      time = f .time;
+      left = f .«left_time»;
+      right = f .«right_time»;
     }

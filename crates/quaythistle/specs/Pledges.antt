@@ -11,11 +11,15 @@ use Rattle.store.specs.Answers.{checkOf, proveOf, bufferAfter, applyOf, imageAf
 use Rattle.shapes.specs.Shape.{shapeOf, shapeAfter}
 use Rattle.gateway.specs.Saving.{saveOf, loadOf}
 use Rattle.gateway.specs.Gateway.{gatewayOf}
+use Rattle.times.specs.Times.{placeFor}
+use Rattle.filer.specs.Filing.{filedOf}
+use Rattle.filer.specs.Filing.{proposed}
 use Rattle.jointstore.specs.Answers as jointstore
 use Rattle.jointgateway.specs.Joint as jointgateway
 use Rattle.quaythistle.specs.declared.plain.QtDigest.{QtDigest}
 use Rattle.quaythistle.specs.declared.plain.QtMetadata.{QtMetadata}
 use Rattle.quaythistle.specs.declared.plain.QtCommand.{QtCommand}
+use Rattle.quaythistle.specs.declared.plain.QtFiling.{QtFiling}
 use Rattle.quaythistle.specs.declared.QtDigested.{QtDigested}
 use Rattle.quaythistle.specs.declared.QtMatched.{QtMatched}
 use Rattle.quaythistle.specs.declared.QtMetadataAnswer.{QtMetadataAnswer}
@@ -24,7 +28,7 @@ use Rattle.quaythistle.specs.declared.QtCounted.{QtCounted}
 use Rattle.quaythistle.specs.declared.QtSaved.{QtSaved}
 use Rattle.quaythistle.specs.declared.QtAnswer.{QtAnswer}
 use Rattle.quaythistle.specs.declared.QtJointAnswer.{QtJointAnswer}
-use Rattle.quaythistle.specs.Plain.{plainVerdict, plainDigest, heldMetadata, shownMetadata, commandOf}
+use Rattle.quaythistle.specs.Plain.{plainVerdict, plainDigest, heldMetadata, shownMetadata, commandOf, filingOf}
 
 pub record Digests (message : List ℕ) (r : QtDigested) : Type 0 where
   pub verdict : r .verdict ≡ plainVerdict (digestOf message .verdict)
@@ -73,6 +77,16 @@ pub record Answers (m : QtMetadata) (k : QtCommand) (first second : List ℕ) (r
   pub verdict : r .verdict ≡ plainVerdict (gatewayOf (heldMetadata m) (commandOf k) first second .verdict)
   pub tag : r .tag ≡ plainDigest (gatewayOf (heldMetadata m) (commandOf k) first second .tag)
   pub metadata : r .metadata ≡ shownMetadata (gatewayOf (heldMetadata m) (commandOf k) first second .metadata)
+
+pub record Files (m : QtMetadata) (f : QtFiling) (readings left right first second : List ℕ) (r : QtAnswer) : Type 0 where
+  pub verdict : r .verdict
+      ≡ plainVerdict (filedOf (heldMetadata m) (proposed (filingOf f) readings left right) first second .verdict)
+  pub tag : r .tag ≡ plainDigest (filedOf (heldMetadata m) (proposed (filingOf f) readings left right) first second .tag)
+  pub metadata : r .metadata
+      ≡ shownMetadata (filedOf (heldMetadata m) (proposed (filingOf f) readings left right) first second .metadata)
+
+pub record Places (times : List ℕ) (time r : ℕ) : Type 0 where
+  pub place : r ≡ placeFor times time
 
 pub record ProvesJointly (b ps lent : List ℕ) (place : ℕ) (r : QtProved) (after : List ℕ) : Type 0 where
   pub verdict : r .verdict ≡ plainVerdict (jointstore.jointOf b ps (length lent) place .verdict)

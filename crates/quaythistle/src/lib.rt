@@ -2,9 +2,10 @@
 //! `requires`: what C passes within its own rules is answered or refused.
 ghost use mathlib.Core.List.{_++_};
 ghost use Rattle.quaythistle.specs.Pledges.{Digests, Tags, Matches, Draws, Checks, Proves, Applies, Shapes, Saves, Loads, Answers};
-ghost use Rattle.quaythistle.specs.Pledges.{ProvesJointly, AnswersJointly};
+ghost use Rattle.quaythistle.specs.Pledges.{Files, Places, ProvesJointly, AnswersJointly};
 use crate::plain::QtCommand;
 use crate::plain::QtDigest;
+use crate::plain::QtFiling;
 use crate::plain::QtMetadata;
 use crate::plain::QtVerdict;
 
@@ -236,6 +237,51 @@ pub extern "C" fn qt_gateway_check(
         tag,
         metadata,
     }
+}
+
+// A block filed by its time: the new one's readings, those of the blocks at the place and after it, and the two proofs.
+#[no_mangle]
+pub extern "C" fn qt_filer_file(
+    metadata: QtMetadata,
+    filing: QtFiling,
+    readings: &[u8],
+    left: &[u8],
+    right: &[u8],
+    first: &[u8],
+    second: &[u8],
+) -> QtAnswer
+    ensures { λ r. ⌜ Files metadata filing (now (readings .entry)) (now (left .entry)) (now (right .entry)) (now (first .entry))
+        (now (second .entry)) r ⌝ }
+{
+    let f = plain::filing(filing);
+    let filed = filer::file(
+        plain::held(metadata),
+        f,
+        readings,
+        left,
+        right,
+        first,
+        second,
+    );
+    let v = filed.verdict;
+    let m = filed.metadata;
+    let bytes = filed.tag;
+    let verdict = plain::verdict(v);
+    let tag = QtDigest { bytes };
+    let metadata = plain::shown(m);
+    QtAnswer {
+        verdict,
+        tag,
+        metadata,
+    }
+}
+
+// The place for a time, from an archive's times.
+#[no_mangle]
+pub extern "C" fn qt_times_place(times: &[u32], time: u32) -> u64
+    ensures { λ r. ⌜ Places (now (times .entry)) time r ⌝ }
+{
+    times::place(times, time)
 }
 
 // The joint proof of a set of positions, from a place of the buffer on.

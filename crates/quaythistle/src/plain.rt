@@ -2,9 +2,11 @@
 // ends of an answer to save and of one to matches.
 ghost use mathlib.Core.Path.{_≡_};
 ghost use Rattle.quaythistle.specs.Plain.{verdictProof, plainVerdict, heldMetadata, shownMetadata, operationOf, heightOf, positionOf, commandOf};
+ghost use Rattle.quaythistle.specs.Plain.{filingOf};
 use commands::Command;
 use commands::Metadata;
 use commands::Operation;
+use filer::Filing;
 use refusals::Verdict;
 
 // The numbers of the operations. Read's is 0; one over Delete's names none.
@@ -44,6 +46,16 @@ pub struct QtCommand {
     pub height: u32,
     pub position: u64,
     pub tag: QtDigest,
+}
+
+// The place that the store proposes, the new block's height and time, and the times of the blocks at the place and after it.
+#[repr(C)]
+pub struct QtFiling {
+    pub position: u64,
+    pub height: u32,
+    pub time: u32,
+    pub left_time: u32,
+    pub right_time: u32,
 }
 
 fn proof(v: Verdict) -> u8
@@ -131,5 +143,17 @@ pub fn command(k: QtCommand) -> Command
         position: position(n, k.position),
         height: height(k.height),
         tag,
+    }
+}
+
+pub fn filing(f: QtFiling) -> Filing
+    ensures { λ r. ⌜ r ≡ filingOf f ⌝ }
+{
+    Filing {
+        position: f.position,
+        height: height(f.height),
+        time: f.time,
+        left: f.left_time,
+        right: f.right_time,
     }
 }
