@@ -7,6 +7,7 @@ ghost use lib.ListN.{length};
 use commands::Command;
 use commands::Metadata;
 use commands::Operation;
+use filer::Filing;
 use refusals::Verdict;
 
 const MOST_FRAME: usize = 200000;
@@ -14,6 +15,9 @@ const MOST_FRAME: usize = 200000;
 const MOST_BUFFER: usize = 16384;
 
 const MOST_JOINT_BUFFER: usize = 262144;
+
+// As many times as a frame can hold.
+const MOST_TIMES: usize = 50000;
 
 // As many positions as one byte tells.
 const MOST_POSITIONS: usize = 255;
@@ -281,6 +285,17 @@ fn call_apply(r: &mut [u8]) -> bool {
     true
 }
 
+// The gateway's answer to a command or a filing.
+fn send_answer(a: gateway::Answer) {
+    let tag = a.tag;
+    let m = a.metadata;
+    let v = a.verdict;
+    let mut f = blank(v);
+    f.tag = tag;
+    f.metadata = m;
+    send(f, b"");
+}
+
 fn call_gateway(r: &[u8]) -> bool {
     if r.len() < 79 {
         return false;
@@ -293,14 +308,7 @@ fn call_gateway(r: &[u8]) -> bool {
         return false;
     }
     let end = 79 + first;
-    let a = gateway::check(metadata(r), command(r, 37), &r[79..end], &r[end..]);
-    let tag = a.tag;
-    let m = a.metadata;
-    let v = a.verdict;
-    let mut f = blank(v);
-    f.tag = tag;
-    f.metadata = m;
-    send(f, b"");
+    send_answer(gateway::check(metadata(r), command(r, 37), &r[79..end], &r[end..]));
     true
 }
 
@@ -391,6 +399,137 @@ fn call_gateway_joint(r: &[u8]) -> bool {
     true
 }
 
+// A block in a frame: its time, and where its readings begin and end. `whole` is false where they run past the frame.
+struct Sent {
+    whole: bool,
+    time: u32,
+    from: usize,
+    to: usize,
+}
+
+fn cut_short(at: usize) -> Sent
+    ensures { λ b. ⌜ (b .from ≡ at) × (b .to ≡ at) ⌝ }
+{
+    Sent {
+        whole: false,
+        time: 0,
+        from: at,
+        to: at,
+    }
+}
+
+// The block that stands from `at` on: time, length, readings.
+fn block(r: &[u8], at: usize) -> Sent
+    requires { ⌜ at ≤ length (now r) ⌝ }
+    ensures { λ b. ⌜ (b .from ≤ b .to) × (b .to ≤ length (now (r .entry))) ⌝ }
+{
+    if r.len() - at < 8 {
+        return cut_short(at);
+    }
+    let size = number(r, at + 4) as usize;
+    if r.len() - at - 8 < size {
+        return cut_short(at);
+    }
+    Sent {
+        whole: true,
+        time: time(r, at),
+        from: at + 8,
+        to: at + 8 + size,
+    }
+}
+
+// The filing of a request: its place and height, and the times of the three blocks.
+fn filing(r: &[u8], new: u32, left: u32, right: u32) -> Filing
+    requires { ⌜ 42 ≤ length (now r) ⌝ }
+{
+    Filing {
+        position: number(r, 37),
+        height: r[41],
+        time: new,
+        left,
+        right,
+    }
+}
+
+// The first proof's length and both proofs.
+fn file_with(m: Metadata, f: Filing, new: &[u8], left: &[u8], right: &[u8], proofs: &[u8]) -> bool {
+    if proofs.len() < 4 {
+        return false;
+    }
+    let first = number(proofs, 0) as usize;
+    if proofs.len() - 4 < first {
+        return false;
+    }
+    let end = 4 + first;
+    send_answer(filer::file(m, f, new, left, right, &proofs[4..end], &proofs[end..]));
+    true
+}
+
+// A block that is cut short leaves the next one at its own place, cut short too; so the last tells for all.
+fn call_file(r: &[u8]) -> bool {
+    if r.len() < 42 {
+        return false;
+    }
+    let new = block(r, 42);
+    let new_from = new.from;
+    let new_to = new.to;
+    let left = block(r, new_to);
+    let left_from = left.from;
+    let left_to = left.to;
+    let right = block(r, left_to);
+    let right_from = right.from;
+    let right_to = right.to;
+    if !right.whole {
+        return false;
+    }
+    file_with(
+        metadata(r),
+        filing(r, new.time, left.time, right.time),
+        &r[new_from..new_to],
+        &r[left_from..left_to],
+        &r[right_from..right_to],
+        &r[right_to..],
+    )
+}
+
+// As many times as there is room for, four bytes each, from `at` on.
+fn take_times(ts: &mut [u32], r: &[u8], at: usize)
+    requires { ⌜ at + 4 * length (now ts) ≤ length (now r) ⌝ }
+{
+    let mut i = 0;
+    while i < ts.len() {
+        ts[i] = time(r, at + 4 * i);
+        i += 1;
+    }
+}
+
+// The place for the new time among the times before it, which go into a buffer.
+fn place_in(r: &[u8], ts: &mut [u32])
+    requires { ⌜ 9 + 4 * length (now ts) ≤ length (now r) ⌝ }
+{
+    take_times(ts, r, 5);
+    let new = time(r, 5 + 4 * ts.len());
+    let mut f = blank(Verdict::Done);
+    f.count = times::place(ts, new);
+    send(f, b"");
+}
+
+fn call_place(r: &[u8]) -> bool {
+    if r.len() < 9 {
+        return false;
+    }
+    let n = number(r, 1) as usize;
+    if (r.len() - 9) / 4 < n {
+        return false;
+    }
+    if MOST_TIMES < n {
+        return false;
+    }
+    let mut ts = [0u32; MOST_TIMES];
+    place_in(r, &mut ts[0..n]);
+    true
+}
+
 // One call; false where the frame is bad.
 fn answered(r: &mut [u8]) -> bool {
     if r.len() < 1 {
@@ -410,6 +549,8 @@ fn answered(r: &mut [u8]) -> bool {
         10 => call_tag(r),
         11 => call_prove_joint(r),
         12 => call_gateway_joint(r),
+        13 => call_file(r),
+        14 => call_place(r),
         _ => false,
     }
 }
