@@ -4,8 +4,9 @@ use std::io::{self, BufReader, Read, Write};
 
 use crate::block;
 use crate::bytes;
+use crate::filer;
 use crate::frames::{Answer, CheckJoint, ProveJoint, Request, LONGEST_FRAME, UNTOUCHED};
-use crate::gateway;
+use crate::gateway::{self, Accepted};
 use crate::metadata::{self, Metadata};
 use crate::refusal::Refusal;
 use crate::sha256::Digest;
@@ -45,20 +46,12 @@ pub fn answer(request: &Request) -> Answer {
             command,
             first,
             second,
-        } => match gateway::check(held, command, first, second) {
-            Ok(accepted) => Answer {
-                tag: accepted.tag,
-                metadata: accepted.metadata,
-                ..Answer::default()
-            },
-            Err(refusal) => Answer {
-                metadata: *held,
-                ..refused(refusal)
-            },
-        },
+        } => judged(held, gateway::check(held, command, first, second)),
         Request::Tag { time, readings } => or_refused(block::tag(*time, readings), tagged),
         Request::ProveJoint(call) => prove_joint(call),
         Request::CheckJoint(call) => check_joint(call),
+        Request::File(call) => judged(&call.held, filer::file(call)),
+        Request::FindPlace(call) => counted(filer::find_place(&call.times, call.new)),
     }
 }
 
@@ -69,7 +62,8 @@ fn or_refused<T>(result: Result<T, Refusal>, done: impl Fn(T) -> Answer) -> Answ
     }
 }
 
-fn refused(refusal: Refusal) -> Answer {
+/// Refused, with no metadata.
+pub fn refused(refusal: Refusal) -> Answer {
     Answer {
         refusal: refusal.number(),
         which: refusal.which(),
@@ -93,7 +87,8 @@ pub fn matched(yes: bool) -> Answer {
     }
 }
 
-fn counted(count: u32) -> Answer {
+/// Done, with a count.
+pub fn counted(count: u32) -> Answer {
     Answer {
         count,
         ..Answer::default()
@@ -104,6 +99,20 @@ fn described(metadata: Metadata) -> Answer {
     Answer {
         metadata,
         ..Answer::default()
+    }
+}
+
+/// The tag and the new metadata; on a refusal the metadata given.
+pub fn judged(held: &Metadata, told: Result<Accepted, Refusal>) -> Answer {
+    match told {
+        Ok(accepted) => Answer {
+            tag: accepted.tag,
+            ..described(accepted.metadata)
+        },
+        Err(refusal) => Answer {
+            metadata: *held,
+            ..refused(refusal)
+        },
     }
 }
 

@@ -16,6 +16,20 @@ pub const HEADER: usize = 7;
 /// A height is at most this.
 pub const GREATEST_HEIGHT: u8 = 15;
 
+/// A block as it is sent: its sample time and its readings.
+#[derive(Clone, Debug, Default, PartialEq, Eq)]
+pub struct Block {
+    pub time: u32,
+    pub readings: Vec<u8>,
+}
+
+impl Block {
+    /// Its tag; readings over 4,089 bytes are refused.
+    pub fn tag(&self) -> Result<Digest, Refusal> {
+        tag(self.time, &self.readings)
+    }
+}
+
 /// The digest of a message; a long message is refused.
 pub fn digest(message: &[u8]) -> Result<Digest, Refusal> {
     match message.len() <= LONGEST_MESSAGE {

@@ -270,6 +270,8 @@ fn described(request: &Request) -> String {
         }
         Request::ProveJoint(call) => format!("{name} {}", call.described()),
         Request::CheckJoint(call) => format!("{name} {}", call.described()),
+        Request::File(call) => format!("{name} {}", call.described()),
+        Request::FindPlace(call) => format!("{name} {}", call.described()),
     }
 }
 

@@ -13,7 +13,7 @@ pub struct Coverage {
 
 /// Every outcome that can come, call by call. "done" of Match says which.
 /// "7 at 0 to 32" stands for 7 at each of these places of a joint proof.
-const REQUIRED: [(&str, &str); 18] = [
+const REQUIRED: [(&str, &str); 20] = [
     ("digest", "done, 11"),
     ("match", "done yes, done no, 11"),
     ("height", "done"),
@@ -41,10 +41,16 @@ const REQUIRED: [(&str, &str); 18] = [
         "check joint",
         "done, 2, 7 at 0 to 32, 8 at 1 to 32, 9 at 1 to 32, 12, 13",
     ),
+    (
+        "file",
+        "done, 2, 3, 4, 7 first, 8 first, 9 first, 7 second, 8 second, 9 second, \
+         11, 12, 14, 15, 16",
+    ),
+    ("find place", "done"),
 ];
 
 /// What must come up where the metadata is held by no archive.
-const REQUIRED_BY_FAMILY: [(&str, &str, &str); 7] = [
+const REQUIRED_BY_FAMILY: [(&str, &str, &str); 8] = [
     ("forged", "gateway Read", "done, 8 first, 9 first"),
     ("forged", "gateway Replace", "done, 8 first, 9 first"),
     ("forged", "gateway Insert", "done, 4, 8 first, 9 first, 12"),
@@ -63,6 +69,11 @@ const REQUIRED_BY_FAMILY: [(&str, &str, &str); 7] = [
         "joint forged",
         "check joint",
         "done, 2, 8 at 1 to 32, 9 at 1 to 32, 12",
+    ),
+    (
+        "filing forged",
+        "file",
+        "done, 4, 9 first, 8 second, 9 second, 12, 14, 15, 16",
     ),
 ];
 

@@ -1,7 +1,9 @@
 //! The frames of the program `answers`: requests and answers as bytes.
 
+mod filing;
 mod joint;
 
+pub use filing::{File, FindPlace};
 pub use joint::{CheckJoint, ProveJoint, LONGEST_JOINT_BUFFER};
 
 use crate::bytes;
@@ -61,6 +63,8 @@ pub enum Request {
     },
     ProveJoint(ProveJoint),
     CheckJoint(CheckJoint),
+    File(File),
+    FindPlace(FindPlace),
 }
 
 /// Takes fields off the front of a frame; none where the fields are short.
@@ -83,6 +87,12 @@ impl<'a> Fields<'a> {
 
     fn digest(&mut self) -> Option<Digest> {
         self.take(32).map(bytes::digest)
+    }
+
+    /// Four bytes of length, then so many bytes.
+    fn with_length(&mut self) -> Option<Vec<u8>> {
+        let length = self.number()?;
+        self.take(length as usize).map(<[u8]>::to_vec)
     }
 
     fn rest(&mut self) -> Vec<u8> {
@@ -143,6 +153,8 @@ impl Request {
             }),
             11 => ProveJoint::read(fields).map(Request::ProveJoint),
             12 => CheckJoint::read(fields).map(Request::CheckJoint),
+            13 => File::read(fields).map(Request::File),
+            14 => FindPlace::read(fields).map(Request::FindPlace),
             _ => None,
         }
     }
@@ -161,8 +173,7 @@ impl Request {
     fn read_gateway(mut fields: Fields) -> Option<Request> {
         let held = fields.metadata()?;
         let command = fields.command()?;
-        let length = fields.number()?;
-        let first = fields.take(length as usize)?.to_vec();
+        let first = fields.with_length()?;
         let second = fields.rest();
         Some(Request::Gateway {
             held,
@@ -204,12 +215,13 @@ impl Request {
                 second,
             } => {
                 let fixed = [write_metadata(held), write_command(command)].concat();
-                let length = (first.len() as u32).to_be_bytes();
-                [&[9][..], &fixed, &length, first, second].concat()
+                [&[9][..], &fixed, &framed(first), second].concat()
             }
             Request::Tag { time, readings } => [&[10][..], &time.to_be_bytes(), readings].concat(),
             Request::ProveJoint(call) => call.write(),
             Request::CheckJoint(call) => call.write(),
+            Request::File(call) => call.write(),
+            Request::FindPlace(call) => call.write(),
         }
     }
 
@@ -243,11 +255,13 @@ impl Request {
             Request::Tag { .. } => "tag",
             Request::ProveJoint(_) => "prove joint",
             Request::CheckJoint(_) => "check joint",
+            Request::File(_) => "file",
+            Request::FindPlace(_) => "find place",
         }
     }
 }
 
-/// Four bytes length of the rest, then the rest.
+/// Four bytes of length, then the bytes: a frame, and fields within one.
 pub fn framed(rest: &[u8]) -> Vec<u8> {
     [&(rest.len() as u32).to_be_bytes()[..], rest].concat()
 }

@@ -83,7 +83,7 @@ fn after(root: Side) -> Metadata {
 }
 
 /// 7, 8 and 9 on one proof.
-fn examine(held: &Metadata, wanted: u32, lent: &[u8], which: Which) -> Result<Proof, Refusal> {
+pub fn examine(held: &Metadata, wanted: u32, lent: &[u8], which: Which) -> Result<Proof, Refusal> {
     let proof = proof::read(lent).ok_or(Refusal::BadProof(which))?;
     let own = u32::from(wanted != 0);
     let own_stands = proof.stop.own == own || wrong(Wrong::OwnUnseen);

@@ -1,5 +1,5 @@
 //! A second program of the calls that document 01 fixes, with document 02's
-//! asks 1, 3 and 4, written plainly from these documents and FIPS 180-4, and a
+//! asks 1, 3, 4 and 5, written plainly from these documents and FIPS 180-4, and a
 //! comparer that puts the same calls to another program and compares every answer
 //! byte for byte.
 
@@ -10,6 +10,7 @@ pub mod cases;
 pub mod command;
 pub mod compare;
 pub mod coverage;
+pub mod filer;
 pub mod frames;
 pub mod gateway;
 pub mod image;

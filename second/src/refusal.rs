@@ -25,10 +25,12 @@ pub enum Refusal {
     BadMetadata,
     BadSet,
     Repeated,
+    OutOfTime,
+    WrongBlock,
 }
 
 impl Refusal {
-    /// The number in document 01's table; 13 and 14 are document 02's.
+    /// The number in document 01's table; 13 to 16 are document 02's.
     pub fn number(self) -> u8 {
         match self {
             Refusal::BadImage => 1,
@@ -45,6 +47,8 @@ impl Refusal {
             Refusal::BadMetadata => 12,
             Refusal::BadSet => 13,
             Refusal::Repeated => 14,
+            Refusal::OutOfTime => 15,
+            Refusal::WrongBlock => 16,
         }
     }
 

@@ -1,6 +1,7 @@
 //! Wrong programs on purpose, so that tests can see the comparer find them.
 //! Nothing here is in force unless `answers --wrong NAME` names it.
 
+mod filing;
 mod joint;
 mod repeated;
 
@@ -155,9 +156,119 @@ pub enum Wrong {
     RepeatIsDone,
     /// Apply changes a lent byte where it refuses a repeat.
     RepeatTouches,
+    /// The time at p must be before the new time.
+    LeftMustBeBefore,
+    /// The new time may be the time at p + 1.
+    RightMayBeEqual,
+    /// The time at p is not compared.
+    LeftTimeUnseen,
+    /// The time at p + 1 is not compared.
+    RightTimeUnseen,
+    /// Times are compared as signed numbers.
+    TimesSigned,
+    /// At p = 0 the left block's time is compared.
+    LeftTimeAtHead,
+    /// At p = n the right block's time is compared.
+    RightTimeAtEnd,
+    /// At p = 0 a long left block is refused.
+    LeftLengthAtHead,
+    /// At p = n and past it a long right block is refused.
+    RightLengthAtEnd,
+    /// Past the end a long right block is refused.
+    RightPastEnd,
+    /// Past the end the left block is not looked at.
+    LeftInRangeOnly,
+    /// At p = n a second proof that is sent is checked.
+    SecondAtEnd,
+    /// A neighbour's readings are bounded by 4,096, as a digested message is.
+    NeighbourAsMessage,
+    /// A long neighbour is one that does not match, 16 and not 11.
+    NeighbourLongUnseen,
+    /// The left block is not matched with its tag.
+    LeftUnmatched,
+    /// The right block is not matched with its tag.
+    RightUnmatched,
+    /// The second proof is for p.
+    SecondForP,
+    /// The second proof is checked against the metadata after Insert.
+    SecondAgainstNew,
+    /// 9 does not look at the second proof.
+    SecondLabelUnseen,
+    /// 8 does not look at the own of the second proof's stop.
+    SecondOwnUnseen,
+    /// 14 compares the new block with the left block that is sent.
+    RepeatOfSent,
+    /// 14 is given for the tag at p + 1 too.
+    RepeatOfRight,
+    /// 11 comes after 12.
+    LongAfterMetadata,
+    /// 11 for a neighbour comes after Insert's own.
+    LongAfterInsert,
+    /// 11 for the right block comes after its proof.
+    LongRightAfterSecond,
+    /// In a filing 2 comes before 12.
+    FilePositionFirst,
+    /// In a filing 4 comes before 3.
+    FileFullFirst,
+    /// In a filing 14 comes before the first proof's 7, 8 and 9.
+    FileRepeatEarly,
+    /// In a filing 14 comes after the second proof's 7, 8 and 9.
+    FileRepeatAfterSecond,
+    /// In a filing 14 comes after 15.
+    FileRepeatLast,
+    /// The second proof is checked before the first.
+    SecondBeforeFirst,
+    /// 16 for the left block comes before the second proof's 7, 8 and 9.
+    LeftBeforeSecond,
+    /// 15 for the left block comes before 16 for the right.
+    LeftTimeBeforeRightBlock,
+    /// 15 comes before 16.
+    TimeBeforeBlock,
+    /// 15 comes right after 11.
+    TimeBeforeProofs,
+    /// A filing reports the new block's tag.
+    FileTellsNewTag,
+    /// A filing reports the tag in the second proof.
+    FileTellsRightTag,
+    /// A filing answers the new count, as Apply does.
+    FileTellsCount,
+    /// A filing is refused with 10 where the proofs do not meet.
+    FileAsksMeeting,
+    /// In a filing the second proof is reported as the first.
+    FileNamesFirst,
+    /// 16 says which block.
+    BlockNamesProof,
+    /// 15 says which comparison.
+    TimeNamesProof,
+    /// 15 comes with the metadata after Insert.
+    OutOfTimeFiled,
+    /// 16 comes with the tag at p.
+    WrongBlockTellsTag,
+    /// 15 and 16 are taken for each other.
+    NumbersSwapped,
+    /// The place is before the first time that is not earlier.
+    PlaceBeforeEqual,
+    /// The place counts all times up to the new one, wherever they stand.
+    PlaceCounts,
+    /// The place is after the last time up to the new one.
+    PlaceFromEnd,
+    /// The place is looked for by halves, as if the times rose.
+    PlaceByHalves,
+    /// The place is found among signed times.
+    PlaceSigned,
+    /// The place is that of the later time, from 1 on.
+    PlaceOfLater,
+    /// The place is 0 where no time is later.
+    PlaceNoneLater,
+    /// The last time is not looked at.
+    PlaceLastUnseen,
+    /// The place is at most 4,096.
+    PlaceOfBlocks,
+    /// The place is answered as a length.
+    PlaceInLength,
 }
 
-pub const WRONGS: [(&str, Wrong); 69] = [
+pub const WRONGS: [(&str, Wrong); 124] = [
     ("last-tallest", Wrong::LastTallest),
     ("empty-zeros", Wrong::EmptyZeros),
     ("head-zeros", Wrong::HeadZeros),
@@ -227,6 +338,64 @@ pub const WRONGS: [(&str, Wrong); 69] = [
     ("repeat-tells-tag", Wrong::RepeatTellsTag),
     ("repeat-is-done", Wrong::RepeatIsDone),
     ("repeat-touches", Wrong::RepeatTouches),
+    ("left-must-be-before", Wrong::LeftMustBeBefore),
+    ("right-may-be-equal", Wrong::RightMayBeEqual),
+    ("left-time-unseen", Wrong::LeftTimeUnseen),
+    ("right-time-unseen", Wrong::RightTimeUnseen),
+    ("times-signed", Wrong::TimesSigned),
+    ("left-time-at-head", Wrong::LeftTimeAtHead),
+    ("right-time-at-end", Wrong::RightTimeAtEnd),
+    ("left-length-at-head", Wrong::LeftLengthAtHead),
+    ("right-length-at-end", Wrong::RightLengthAtEnd),
+    ("right-past-end", Wrong::RightPastEnd),
+    ("left-in-range-only", Wrong::LeftInRangeOnly),
+    ("second-at-end", Wrong::SecondAtEnd),
+    ("neighbour-as-message", Wrong::NeighbourAsMessage),
+    ("neighbour-long-unseen", Wrong::NeighbourLongUnseen),
+    ("left-unmatched", Wrong::LeftUnmatched),
+    ("right-unmatched", Wrong::RightUnmatched),
+    ("second-for-p", Wrong::SecondForP),
+    ("second-against-new", Wrong::SecondAgainstNew),
+    ("second-label-unseen", Wrong::SecondLabelUnseen),
+    ("second-own-unseen", Wrong::SecondOwnUnseen),
+    ("repeat-of-sent", Wrong::RepeatOfSent),
+    ("repeat-of-right", Wrong::RepeatOfRight),
+    ("long-after-metadata", Wrong::LongAfterMetadata),
+    ("long-after-insert", Wrong::LongAfterInsert),
+    ("long-right-after-second", Wrong::LongRightAfterSecond),
+    ("file-position-first", Wrong::FilePositionFirst),
+    ("file-full-first", Wrong::FileFullFirst),
+    ("file-repeat-early", Wrong::FileRepeatEarly),
+    ("file-repeat-after-second", Wrong::FileRepeatAfterSecond),
+    ("file-repeat-last", Wrong::FileRepeatLast),
+    ("second-before-first", Wrong::SecondBeforeFirst),
+    ("left-before-second", Wrong::LeftBeforeSecond),
+    (
+        "left-time-before-right-block",
+        Wrong::LeftTimeBeforeRightBlock,
+    ),
+    ("time-before-block", Wrong::TimeBeforeBlock),
+    ("time-before-proofs", Wrong::TimeBeforeProofs),
+    ("file-tells-new-tag", Wrong::FileTellsNewTag),
+    ("file-tells-right-tag", Wrong::FileTellsRightTag),
+    ("file-tells-count", Wrong::FileTellsCount),
+    ("file-asks-meeting", Wrong::FileAsksMeeting),
+    ("file-names-first", Wrong::FileNamesFirst),
+    ("block-names-proof", Wrong::BlockNamesProof),
+    ("time-names-proof", Wrong::TimeNamesProof),
+    ("out-of-time-filed", Wrong::OutOfTimeFiled),
+    ("wrong-block-tells-tag", Wrong::WrongBlockTellsTag),
+    ("numbers-swapped", Wrong::NumbersSwapped),
+    ("place-before-equal", Wrong::PlaceBeforeEqual),
+    ("place-counts", Wrong::PlaceCounts),
+    ("place-from-end", Wrong::PlaceFromEnd),
+    ("place-by-halves", Wrong::PlaceByHalves),
+    ("place-signed", Wrong::PlaceSigned),
+    ("place-of-later", Wrong::PlaceOfLater),
+    ("place-none-later", Wrong::PlaceNoneLater),
+    ("place-last-unseen", Wrong::PlaceLastUnseen),
+    ("place-of-blocks", Wrong::PlaceOfBlocks),
+    ("place-in-length", Wrong::PlaceInLength),
 ];
 
 /// The place in `WRONGS` of the wrong in force, from 1 on; 0 for none.
@@ -333,7 +502,11 @@ pub fn answer(request: &Request, answer: Answer) -> Answer {
         Some(Wrong::Nods) => nods(request, answer),
         Some(Wrong::RefusesAll) => refuses_all(request, answer),
         Some(Wrong::ShortMessages) => short_messages(request, answer),
-        Some(wrong) => repeated::answer(wrong, request, joint::answer(wrong, request, answer)),
+        Some(wrong) => {
+            let answer = joint::answer(wrong, request, answer);
+            let answer = repeated::answer(wrong, request, answer);
+            filing::answer(wrong, request, answer)
+        }
         None => answer,
     }
 }

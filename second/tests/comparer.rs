@@ -4,7 +4,7 @@ use std::path::Path;
 use std::process::{Command, Output};
 
 use second::answers;
-use second::wrong::WRONGS;
+use second::wrong::{Wrong, WRONGS};
 
 const SECOND: &str = env!("CARGO_BIN_EXE_second");
 
@@ -41,9 +41,18 @@ fn other_seeds_pass_and_cover() {
     }
 }
 
+/// Half of them at a time, on two threads.
 #[test]
 fn every_wrong_program_is_found() {
-    for (name, _) in WRONGS {
+    let (one, two) = WRONGS.split_at(WRONGS.len() / 2);
+    std::thread::scope(|scope| {
+        scope.spawn(|| each_is_found(one));
+        each_is_found(two);
+    });
+}
+
+fn each_is_found(wrongs: &[(&str, Wrong)]) {
+    for (name, _) in wrongs {
         let options = ["--first", "--rows", "2", "--cases", "0"];
         let output = compare(&options, &[SECOND, "answers", "--wrong", name]);
         assert_eq!(output.status.code(), Some(1), "{name}");
@@ -56,6 +65,8 @@ fn a_difference_is_shown_and_kept() {
     let options = ["--rows", "0", "--cases", "0"];
     let wrong = [SECOND, "answers", "--wrong", "coin-sixteen"];
     let output = compare(&options, &wrong);
+    // Word 0 comes up in two calls and in two whole inputs.
+    assert!(last_line(&output).ends_with(" passed, 4 failed"));
     let text = String::from_utf8_lossy(&output.stdout).to_string();
     assert!(text.contains("call      height, word 0"));
     assert!(text.contains("count     15 | 16  <-- differs"));

@@ -2,6 +2,7 @@
 
 pub mod archive;
 pub mod edges;
+pub mod filing;
 pub mod forged;
 pub mod images;
 pub mod joint;
@@ -70,11 +71,19 @@ impl<'a> Deck<'a> {
 
 /// The families. Down to the short rows they are the same for every seed and
 /// hold all that the coverage table asks for; then they are random.
-const FAMILIES: [fn(&Plan, &mut Deck); 29] = [
+const FAMILIES: [fn(&Plan, &mut Deck); 42] = [
     |_, deck| known::deal(deck),
-    |_, deck| repeated::deal(deck),
+    |_, deck| filing::honest::deal(deck),
+    |_, deck| filing::order::deal(deck),
+    |_, deck| filing::places::deal(deck),
     |_, deck| joint::order::deal(deck),
+    |_, deck| repeated::deal(deck),
     |_, deck| joint::form::deal(deck),
+    |_, deck| filing::blocks::deal(deck),
+    |_, deck| filing::proofs::deal(deck),
+    |_, deck| filing::forged::fixed(deck),
+    |_, deck| filing::outages::deal(deck),
+    |_, deck| filing::edges::deal(deck),
     |_, deck| tags::deal(deck),
     |_, deck| order::deal(deck),
     |_, deck| images::every_header_byte(deck),
@@ -100,6 +109,11 @@ const FAMILIES: [fn(&Plan, &mut Deck); 29] = [
     |plan, deck| joint::honest::random(plan.seed, plan.cases / 16, deck),
     |plan, deck| joint::forged::random(plan.seed, plan.cases / 32, deck),
     |plan, deck| joint::lies::random(plan.seed, plan.cases / 8, deck),
+    |plan, deck| filing::lies::rows(plan.seed, plan.cases / 40, deck),
+    |plan, deck| filing::lies::lies(plan.seed, plan.cases / 20, deck),
+    |plan, deck| filing::forged::random(plan.seed, plan.cases / 80, deck),
+    |plan, deck| filing::outages::random(plan.seed, plan.cases / 80, deck),
+    |plan, deck| filing::places::random(plan.seed, plan.cases / 80, deck),
 ];
 
 /// Deals every call of the plan.

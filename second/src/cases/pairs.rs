@@ -8,6 +8,7 @@ use super::raw::{self, climb, RawEntry, RawProof};
 use super::Deck;
 use crate::command::Operation;
 use crate::random::Random;
+use crate::sha256::Digest;
 use crate::tree::Side;
 
 const FAMILY: &str = "forged pairs";
@@ -79,11 +80,26 @@ fn pair_calls(kind: Kind, random: &mut Random, deck: &mut Deck) {
 
 /// A pair of proofs of p - 1 and p.
 pub fn pair(kind: Kind, random: &mut Random) -> (RawProof, RawProof) {
+    pair_of(kind, random, [None, None])
+}
+
+/// A pair of proofs of blocks with these tags, or with any.
+pub fn pair_of(kind: Kind, random: &mut Random, tags: Tags) -> (RawProof, RawProof) {
     match kind {
-        Kind::Stop | Kind::SecondPassesLeaf => stop_pair(kind, random),
-        Kind::Crossed => crossed_pair(random),
-        _ => node_pair(kind, random),
+        Kind::Stop | Kind::SecondPassesLeaf => stop_pair(kind, random, tags),
+        Kind::Crossed => crossed_pair(random, tags),
+        _ => node_pair(kind, random, tags),
     }
+}
+
+/// The tags at p - 1 and at p, where they are asked for.
+type Tags = [Option<Digest>; 2];
+
+/// The tag that is asked for. One is drawn in any case, so that all else is the
+/// same.
+fn this_or_any(tag: Option<Digest>, random: &mut Random) -> Digest {
+    let any = random.digest();
+    tag.unwrap_or(any)
 }
 
 /// How many entries there are above the parting, and below it.
@@ -104,7 +120,7 @@ struct Parts {
 }
 
 /// Random parts: the first's right entries and the second's down entries.
-fn random_parts(kind: Kind, random: &mut Random) -> Parts {
+fn random_parts(kind: Kind, random: &mut Random, tags: Tags) -> Parts {
     let zero = random.one_in(4);
     let level = random.from_to(2, 15) as u8;
     let (most, below) = random_lengths(random);
@@ -132,8 +148,8 @@ fn random_parts(kind: Kind, random: &mut Random) -> Parts {
         ..ANY
     };
     let own = u32::from(!zero);
-    let mut first = random_proof_of(random, first, own, 0);
-    let mut second = random_proof_of(random, second, 1, 0);
+    let mut first = random_proof_of(random, first, own, tags[0]);
+    let mut second = random_proof_of(random, second, 1, tags[1]);
     spoil(kind, random, &mut first, &mut second);
     Parts {
         above,
@@ -143,14 +159,14 @@ fn random_parts(kind: Kind, random: &mut Random) -> Parts {
     }
 }
 
-/// A path and a stop whose right side has at least this rank, or none at 0.
-fn random_proof_of(random: &mut Random, bounds: Bounds, own: u32, least: u32) -> RawProof {
+/// A path and a stop, which has no right side where the path may not go down.
+fn random_proof_of(random: &mut Random, bounds: Bounds, own: u32, tag: Option<Digest>) -> RawProof {
     let entries = random_path(random, bounds);
-    let mut right = random_side(random, least);
+    let mut right = random_side(random, 0);
     if !bounds.downs {
-        right.rank = least;
+        right.rank = 0;
     }
-    let stop = raw::stop(own, random.digest(), right);
+    let stop = raw::stop(own, this_or_any(tag, random), right);
     RawProof { entries, stop }
 }
 
@@ -194,8 +210,8 @@ fn spoil_with_right(random: &mut Random, second: &mut RawProof) {
 
 /// Joins the parts at a node. The ranks that the two entries state make the
 /// proofs prove p - 1 and p and add up to one count, whatever is below.
-fn node_pair(kind: Kind, random: &mut Random) -> (RawProof, RawProof) {
-    let parts = random_parts(kind, random);
+fn node_pair(kind: Kind, random: &mut Random, tags: Tags) -> (RawProof, RawProof) {
+    let parts = random_parts(kind, random, tags);
     let (mut first, mut second) = (parts.first, parts.second);
     let one = climb(&first.entries, first.stop.side());
     let two = climb(&second.entries, second.stop.side());
@@ -222,17 +238,17 @@ fn node_pair(kind: Kind, random: &mut Random) -> (RawProof, RawProof) {
 }
 
 /// The first stops, the second goes right from there.
-fn stop_pair(kind: Kind, random: &mut Random) -> (RawProof, RawProof) {
+fn stop_pair(kind: Kind, random: &mut Random, tags: Tags) -> (RawProof, RawProof) {
     let zero = random.one_in(4);
     let (most, _) = random_lengths(random);
     let above = random_path(random, Bounds { most, zero, ..ANY });
-    let (own, tag) = (u32::from(!zero), random.digest());
+    let (own, tag) = (u32::from(!zero), this_or_any(tags[0], random));
     let right = random_side(random, 0);
     let mut later = Vec::new();
     if kind == Kind::SecondPassesLeaf {
         later = vec![raw::leaf(0, [0; 32]); random.from_to(1, 2) as usize];
     }
-    let last = raw::stop(1, random.digest(), right);
+    let last = raw::stop(1, this_or_any(tags[1], random), right);
     let below = climb(&later, last.side());
     let stop = raw::stop(own, tag, below);
     let passed = vec![raw::leaf(own, stop.tag)];
@@ -247,7 +263,7 @@ fn stop_pair(kind: Kind, random: &mut Random) -> (RawProof, RawProof) {
 
 /// The first goes right and the second down, and yet the positions and the
 /// count add up, by a lower side whose rank is stated too small.
-fn crossed_pair(random: &mut Random) -> (RawProof, RawProof) {
+fn crossed_pair(random: &mut Random, tags: Tags) -> (RawProof, RawProof) {
     let level = random.from_to(2, 15) as u8;
     let (most, _) = random_lengths(random);
     let floor = level;
@@ -255,13 +271,13 @@ fn crossed_pair(random: &mut Random) -> (RawProof, RawProof) {
     let short = random.below(3);
     let label = random.digest();
     let deep = Side { rank: 40, label };
-    let first_stop = raw::stop(1, random.digest(), deep);
+    let first_stop = raw::stop(1, this_or_any(tags[0], random), deep);
     let step = Side {
         rank: short + 1,
         label,
     };
     let later = vec![raw::right(1, step)];
-    let second_stop = raw::stop(1, random.digest(), Side { rank: 0, label });
+    let second_stop = raw::stop(1, this_or_any(tags[1], random), Side { rank: 0, label });
     let (one, two) = (first_stop.side(), climb(&later, second_stop.side()));
     let goes_right = Side {
         rank: short,

@@ -312,7 +312,7 @@ fn both_changed(first: &mut [u8], second: &mut [u8], random: &mut Random) {
 }
 
 /// A proof changed, cut, extended, spliced, or of something else.
-fn lied_about(honest: &[u8], row: &Archive, other: &Archive, random: &mut Random) -> Vec<u8> {
+pub fn lied_about(honest: &[u8], row: &Archive, other: &Archive, random: &mut Random) -> Vec<u8> {
     let mut proof = honest.to_vec();
     if !is_whole(&proof) {
         let length = random.index(400);

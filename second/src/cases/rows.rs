@@ -105,12 +105,17 @@ fn random_calls(row: &Archive, random: &mut Random, deck: &mut Deck) {
     deck.put("random rows", row.gateway(insert));
 }
 
-/// A command with a height of up to 15, now and then above.
-pub fn random_command(random: &mut Random, operation: Operation, n: u32) -> Command {
-    let height = match random.one_in(24) {
+/// A height of up to 15, now and then above.
+pub fn random_height(random: &mut Random) -> u8 {
+    match random.one_in(24) {
         true => random.below(256) as u8,
         false => random.below(16) as u8,
-    };
+    }
+}
+
+/// A command with such a height.
+pub fn random_command(random: &mut Random, operation: Operation, n: u32) -> Command {
+    let height = random_height(random);
     let p = random_position(random, n);
     command(operation, p, height, random.digest())
 }

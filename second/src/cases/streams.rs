@@ -1,6 +1,7 @@
 //! Whole inputs that end in a bad frame, or that end well at an edge.
 
 use super::archive::{command, five};
+use super::filing::dated::{late, rising};
 use crate::command::Operation;
 use crate::frames::{framed, Request};
 
@@ -27,7 +28,7 @@ fn with_fields(call: u8, fields: usize) -> Vec<u8> {
 }
 
 /// Every call with its fields one byte short, and with the fewest there are.
-fn fewest_fields() -> [(u8, usize); 12] {
+fn fewest_fields() -> [(u8, usize); 14] {
     [
         (1, 0),
         (2, 36),
@@ -41,6 +42,8 @@ fn fewest_fields() -> [(u8, usize); 12] {
         (10, 4),
         (11, 9),
         (12, 37),
+        (13, 69),
+        (14, 8),
     ]
 }
 
@@ -54,7 +57,7 @@ fn ends() -> Vec<(String, Vec<u8>)> {
     add("a length and nothing", vec![0, 0, 0, 9]);
     add("a frame without a call", vec![0, 0, 0, 0]);
     add("call 0", with_fields(0, 100));
-    add("call 13", with_fields(13, 100));
+    add("call 15", with_fields(15, 100));
     add("call 200", with_fields(200, 100));
     add("call 255", with_fields(255, 100));
     add("the longest length", vec![255; 400]);
@@ -70,6 +73,9 @@ fn ends() -> Vec<(String, Vec<u8>)> {
     add("call 2, a tag and no time", with_fields(2, 32));
     all.extend(bad_fields());
     all.extend(joint_fields());
+    all.extend(file_cut_short());
+    all.extend(file_lengths());
+    all.extend(numbers_of_times());
     all
 }
 
@@ -99,6 +105,81 @@ fn joint_fields() -> Vec<(String, Vec<u8>)> {
     for (call, fields) in [(11, 199_999), (12, 199_999), (11, 200_000), (12, 200_000)] {
         let name = format!("call {call} with {fields} bytes of fields");
         all.push((name, with_fields(call, fields)));
+    }
+    all
+}
+
+/// The fields of an honest filing one after the other, the second proof apart.
+fn file_fields() -> (Vec<Vec<u8>>, Vec<u8>) {
+    let row = rising();
+    let call = row.file(&row.archive(), 3, 1, &late(3));
+    let number = |n: u32| n.to_be_bytes().to_vec();
+    let mut fields = vec![number(call.held.count), call.held.label.to_vec()];
+    fields.extend([number(call.p), vec![call.height]]);
+    for sent in [call.new, call.left, call.right] {
+        let length = number(sent.readings.len() as u32);
+        fields.extend([number(sent.time), length, sent.readings]);
+    }
+    fields.extend([number(call.first.len() as u32), call.first]);
+    (fields, call.second)
+}
+
+/// A filing that ends with each of its fields, and one byte before that.
+fn file_cut_short() -> Vec<(String, Vec<u8>)> {
+    let mut all: Vec<(String, Vec<u8>)> = Vec::new();
+    let (fields, second) = file_fields();
+    let mut rest = vec![13];
+    for field in fields {
+        rest.extend(field);
+        let length = rest.len();
+        for cut in [length - 1, length] {
+            let name = format!("a filing cut after {cut} bytes");
+            all.push((name, framed(&rest[..cut])));
+        }
+    }
+    rest.extend(second);
+    all.push(("a whole filing".to_string(), framed(&rest)));
+    all
+}
+
+/// A filing with one of its four lengths set so that what follows is taken
+/// whole, or that it runs past the frame.
+fn file_lengths() -> Vec<(String, Vec<u8>)> {
+    let mut all: Vec<(String, Vec<u8>)> = Vec::new();
+    let (fields, second) = file_fields();
+    for at in [5, 8, 11, 13] {
+        let later = fields[at + 1..].iter().map(Vec::len).sum::<usize>();
+        let left = (later + second.len()) as u32;
+        for length in [left, left + 1, 1 << 31, u32::MAX] {
+            let mut changed = fields.clone();
+            changed[at] = length.to_be_bytes().to_vec();
+            let rest = [&[13], &changed.concat()[..], &second].concat();
+            let name = format!("a filing with length {length} in field {at}");
+            all.push((name, framed(&rest)));
+        }
+    }
+    all
+}
+
+/// Times cut short, bytes after the new time, numbers that no frame holds, and
+/// a frame as long as it may be.
+fn numbers_of_times() -> Vec<(String, Vec<u8>)> {
+    let mut all: Vec<(String, Vec<u8>)> = Vec::new();
+    let mut add = |number: u32, fields: usize| {
+        let name = format!("{number} times in {fields} bytes");
+        all.push((name, set(14, fields, 0, &number.to_be_bytes())));
+    };
+    for number in [0, 1, 3, 4096] {
+        let whole = 8 + 4 * number as usize;
+        for fields in [whole - 4, whole - 1, whole, whole + 1, whole + 1000] {
+            add(number, fields);
+        }
+    }
+    for number in [8, 1 << 30, (1 << 30) + 1, 1 << 31, u32::MAX - 1, u32::MAX] {
+        add(number, 30);
+    }
+    for (number, fields) in [(49_997, 199_999), (49_998, 199_999), (49_998, 200_000)] {
+        add(number, fields);
     }
     all
 }

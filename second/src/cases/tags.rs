@@ -191,7 +191,7 @@ fn misses(time: u32, readings: &[u8]) -> Vec<Request> {
 }
 
 /// Another time, other readings, or bytes moved from one to the other.
-fn near_blocks(time: u32, readings: &[u8]) -> Vec<(u32, Vec<u8>)> {
+pub fn near_blocks(time: u32, readings: &[u8]) -> Vec<(u32, Vec<u8>)> {
     let times = near_times(time).into_iter();
     let times = times.map(|time| (time, readings.to_vec()));
     let others = near_readings(readings).into_iter();
