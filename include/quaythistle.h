@@ -5,10 +5,10 @@
  * memmove and memset of the C library and nothing else: no call allocates, keeps anything between calls, reads or writes a file, or fails
  * in a way that its answer does not tell. Calls on different buffers may run at once.
  *
- * No call recurses. For a task with a small stack: a digest, a tag, a match and a height take less than 1 KiB of it, the gateway's calls
- * less than 2 KiB, the store's and the shape less than 9 KiB, beside the arguments that the caller passes by value and the answer that it
- * gets. The gateway's check of a joint proof takes more, since it spells each proof out in a buffer of 7,677 bytes on the stack: less than
- * 12 KiB, beside an answer of 1,080 bytes.
+ * No call recurses. For a task with a small stack: a digest, a tag, a match, a height and a place by time take less than 1 KiB of it, the
+ * gateway's calls, the filing of a block by its time among them, less than 2 KiB, the store's and the shape less than 9 KiB, beside the
+ * arguments that the caller passes by value and the answer that it gets. The gateway's check of a joint proof takes more, since it spells
+ * each proof out in a buffer of 7,677 bytes on the stack: less than 12 KiB, beside an answer of 1,080 bytes.
  *
  * Every call takes whatever C can pass and answers or refuses it by number. A refusal changes no lent byte.
  *
@@ -70,9 +70,14 @@ enum {
     QT_LONG_MESSAGE = 11,   /* over 4,096 bytes to digest; so for a block, readings over 4,089 bytes */
     QT_BAD_METADATA = 12,   /* count over 4,096, or saved bytes not of the stated form */
     QT_BAD_SET = 13,        /* positions of a joint proof: none, over 32, or one not above the one before */
-    QT_REPEATED = 14        /* Insert after p, p at least 1, of the tag at p: a block that comes again and is filed where it belongs, right
+    QT_REPEATED = 14,       /* Insert after p, p at least 1, of the tag at p: a block that comes again and is filed where it belongs, right
                                after its first copy. No other tag is looked at: the same command sent again, word for word, names the
-                               place before the copy, which stands at p + 1 by then, and is not refused */
+                               place before the copy, which stands at p + 1 by then, and is not refused. Filed by its time, a block that
+                               comes again is placed anew, right after the copy, and is refused; unless another block of the same time
+                               has come in after the copy */
+    QT_OUT_OF_TIME = 15,    /* a filing by time: the block at p is later than the new one, or the block at p + 1 is not */
+    QT_WRONG_BLOCK = 16     /* a filing by time: the block lent as that at p, or as that at p + 1, does not match the tag that the proof
+                               shows there */
 };
 
 /* Which proof 7, 8 and 9 speak of: `proof` of a qt_verdict. Of a joint proof it is the place instead: 0 the joint proof's own form (7 alone),
@@ -80,7 +85,7 @@ enum {
 enum {
     QT_NO_PROOF = 0, /* the call is done, or its refusal speaks of no proof */
     QT_FIRST = 1,    /* the first proof, or the only one */
-    QT_SECOND = 2    /* Delete's second proof */
+    QT_SECOND = 2    /* the second proof: Delete's, for p; a filing's, for p + 1 */
 };
 
 /* The commands: `operation` of a qt_command. */
@@ -98,7 +103,7 @@ typedef struct {
 
 /* Whether a call is done, or why not. */
 typedef struct {
-    uint32_t refusal; /* QT_DONE, or the refusal's number, 1 to 14 */
+    uint32_t refusal; /* QT_DONE, or the refusal's number, 1 to 16 */
     uint32_t proof;   /* which proof the refusal speaks of: QT_NO_PROOF, QT_FIRST or QT_SECOND; of a joint proof the place, 0 to 32 */
 } qt_verdict;
 
@@ -115,6 +120,16 @@ typedef struct {
     uint64_t position;  /* p */
     qt_digest tag;      /* the tag that Replace and Insert put in */
 } qt_command;
+
+/* A late block that is to be filed by its time, right after a place that the store proposes. The time of a neighbour that is not needed is
+ * not looked at. */
+typedef struct {
+    uint64_t position;   /* p, 0 to n */
+    uint32_t height;     /* the new block's height, 0 to 15; any other is refused with 3 */
+    uint32_t time;       /* the new block's sample time, in seconds */
+    uint32_t left_time;  /* the sample time of the block at p, needed where p is at least 1 */
+    uint32_t right_time; /* the sample time of the block at p + 1, needed where p is less than n */
+} qt_filing;
 
 /* A digest or a tag; zero where the call is refused. */
 typedef struct {
@@ -153,7 +168,7 @@ typedef struct {
     uint8_t bytes[QT_SAVED_SIZE];
 } qt_saved;
 
-/* The gateway's answer to a command; a zero tag and the metadata given where it is refused. */
+/* The gateway's answer to a command or a filing; a zero tag and the metadata given where it is refused. */
 typedef struct {
     qt_verdict verdict;
     qt_digest tag;        /* the tag at p before the edit, 32 zero bytes for p = 0; Delete so reports the tag removed */
@@ -224,6 +239,24 @@ qt_proved qt_jointstore_prove(const uint8_t *QT_ALONE image, size_t length, cons
  * Read of each position accepts its proof, spelled out. Refuses with 12, 13, 2, then 7 with place 0 for the joint proof's form, then 7, 8, 9
  * of the first proof with place 1, the same of the second with place 2, and so on, in this order. */
 qt_joint_answer qt_jointgateway_check(qt_metadata metadata, const uint64_t *positions, size_t number, const uint8_t *proof, size_t length);
+
+/* The place that the store proposes for a block of this time, from the times of its blocks in their order: how many stand before the first
+ * that is later, all of them where none is. So a block goes after those of its own time. `number` counts times, which may rise or not.
+ * Refuses nothing. */
+uint64_t qt_times_place(const uint32_t *times, size_t number, uint32_t time);
+
+/* The gateway files a late block by its time: Insert after p of the new block's tag, against the metadata it holds, with the blocks that
+ * stand at p (`left`) and at p + 1 (`right`), the proof of p (`first`) and the proof of p + 1 (`second`). The left block is needed where p
+ * is at least 1, the right one and the second proof where p is less than the count held; what is not needed is not looked at. Accepted
+ * exactly when neither the new block nor a needed one is too long, Insert's check and the second proof pass, each needed block matches the
+ * tag that its proof shows, and the left time is at or before the new one, which is before the right one. So whoever proposes the place:
+ * where the times of an archive never fell, they do not fall after a filing, or two different messages of equal digest exist. The answer
+ * is Insert's. The store then makes that Insert (qt_store_apply, with the same position and height and the new block's tag) and puts the
+ * time into its times behind the first p. Refuses with 11 for the new block, then for a needed one; 12, 2, 3, 4, then 7, 8, 9 on the first
+ * proof; 14; 7, 8, 9 on the second; 16; 15; in this order. */
+qt_answer qt_filer_file(qt_metadata metadata, qt_filing filing, const uint8_t *readings, size_t readings_length, const uint8_t *left,
+                        size_t left_length, const uint8_t *right, size_t right_length, const uint8_t *first, size_t first_length,
+                        const uint8_t *second, size_t second_length);
 
 #ifdef __cplusplus
 }

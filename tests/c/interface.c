@@ -1,30 +1,6 @@
-/* Calls every function of quaythistle.h, and provokes every refusal where a call can give it. The last line is 'N passed, M failed'. */
-#include "layout.h"
-#include <stdio.h>
-#include <string.h>
-
-static int passed, failed;
-
-#define CHECK(fact) check((fact), #fact, __LINE__)
-
-static void check(bool held, const char *fact, int line) {
-    if (held) {
-        passed += 1;
-        return;
-    }
-    failed += 1;
-    printf("interface.c:%d: not so: %s\n", line, fact);
-}
-
-static const qt_digest ZERO;
-
-static bool same(qt_digest a, qt_digest b) { return memcmp(a.bytes, b.bytes, sizeof a.bytes) == 0; }
-
-static bool same_metadata(qt_metadata a, qt_metadata b) { return a.count == b.count && same(a.label, b.label); }
-
-static bool is(qt_verdict v, uint32_t refusal, uint32_t proof) { return v.refusal == refusal && v.proof == proof; }
-
-static bool done(qt_verdict v) { return is(v, QT_DONE, QT_NO_PROOF); }
+/* Calls every function of quaythistle.h but those of filing by time (filing.c), and provokes every refusal where a call can give it. The last
+ * line is 'N passed, M failed'. */
+#include "check.h"
 
 static bool refused(qt_verdict v, uint32_t refusal) { return is(v, refusal, QT_NO_PROOF); }
 
@@ -39,10 +15,6 @@ static qt_digest hex(const char *digits) {
 }
 
 static qt_digest digest_of(const void *message, size_t length) { return qt_sha256_digest(message, length).digest; }
-
-static qt_command command(uint32_t operation, uint64_t position, uint32_t height, qt_digest tag) {
-    return (qt_command){.operation = operation, .height = height, .position = position, .tag = tag};
-}
 
 /* An archive of n blocks of height 0 and a zero tag, in a buffer of its own. */
 static uint8_t flat[QT_LONGEST_IMAGE + 33];
@@ -68,9 +40,7 @@ static const uint32_t five_heights[5] = {0, 2, 0, 1, 2};
 static qt_digest letter(size_t i) { return digest_of(&"ABCDE"[i], 1); }
 
 static void fill_five(void) {
-    static const uint8_t none[7] = {1, 0, 0, 0, 2, 0, 0};
-    memset(five, 0, sizeof five);
-    memcpy(five, none, sizeof none);
+    fill_empty(five, sizeof five);
     for (size_t i = 0; i < 5; i += 1) qt_store_apply(five, sizeof five, command(QT_INSERT, i, five_heights[i], letter(i)));
 }
 
@@ -81,13 +51,6 @@ static const char *const five_label = "58e3ab158035b449e489a22d72a95bf6550cbd259
 static const char *const abc_digest = "ba7816bf8f01cfea414140de5dae2223b00361a396177a9cb410ff61f20015ad";
 static const char *const none_digest = "e3b0c44298fc1c149afbf4c8996fb92427ae41e4649b934ca495991b7852b855";
 static const uint8_t abc[3] = {'a', 'b', 'c'};
-
-/* Byte i is i modulo 251. */
-static uint8_t pattern[QT_LONGEST_MESSAGE + 1];
-
-static void fill_pattern(void) {
-    for (size_t i = 0; i < sizeof pattern; i += 1) pattern[i] = (uint8_t)(i % 251);
-}
 
 static bool is_digest(qt_digested d, qt_digest wanted) { return done(d.verdict) && same(d.digest, wanted); }
 
@@ -347,16 +310,7 @@ static void saved_metadata(void) {
 
 /* A command at the row of five with the store's own proofs: the gateway accepts it, reports the tag, and predicts what the store's check
  * answers after the store's edit. */
-typedef struct {
-    uint8_t bytes[QT_LONGEST_PROOF];
-    size_t length;
-} proof;
-
-static proof proof_at(uint64_t p) {
-    proof s;
-    s.length = qt_store_prove(five, sizeof five, p, s.bytes, sizeof s.bytes, 0).length;
-    return s;
-}
+static proof proof_at(uint64_t p) { return proof_of(five, sizeof five, p); }
 
 static qt_answer asked(qt_metadata held, qt_command k, const proof *first, const proof *second) {
     return qt_gateway_check(held, k, first->bytes, first->length, second->bytes, second->length);
@@ -387,15 +341,7 @@ static void commands(void) {
 }
 
 /* What the gateway refuses before it looks at a proof. */
-static void answer_refused(qt_metadata held, qt_command k, const proof *first, const proof *second, uint32_t refusal, uint32_t which,
-                           int line) {
-    qt_answer a = asked(held, k, first, second);
-    check(is(a.verdict, refusal, which), "the refusal and the proof it speaks of", line);
-    check(same(a.tag, ZERO), "a zero tag", line);
-    check(same_metadata(a.metadata, held), "the metadata given", line);
-}
-
-#define REFUSED(held, k, first, second, refusal, which) answer_refused(held, k, first, second, refusal, which, __LINE__)
+#define REFUSED(held, k, first, second, refusal, which) check_refused(asked(held, k, first, second), held, refusal, which, __LINE__)
 
 static void refused_openings(void) {
     fill_five();
@@ -808,6 +754,5 @@ int main(void) {
     refused_joint_openings();
     refused_forms();
     refused_places();
-    printf("%d passed, %d failed\n", passed, failed);
-    return failed != 0;
+    return finish();
 }

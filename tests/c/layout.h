@@ -22,6 +22,13 @@ AT(qt_command, height, 4);
 AT(qt_command, position, 8);
 AT(qt_command, tag, 16);
 
+SIZE(qt_filing, 24);
+AT(qt_filing, position, 0);
+AT(qt_filing, height, 8);
+AT(qt_filing, time, 12);
+AT(qt_filing, left_time, 16);
+AT(qt_filing, right_time, 20);
+
 SIZE(qt_digested, 40);
 AT(qt_digested, verdict, 0);
 AT(qt_digested, digest, 8);

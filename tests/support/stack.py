@@ -9,8 +9,8 @@ import stackuse
 # What is to be under which limit. The digest's own is without the C interface, as the gateway calls it.
 LIMITS = {
     512: ["sha256::digest"],
-    1024: ["qt_sha256_digest", "qt_sha256_digest_joined", "qt_labels_tag", "qt_labels_matches", "qt_labels_height"],
-    2048: ["qt_gateway_check", "qt_gateway_save", "qt_gateway_load"],
+    1024: ["qt_sha256_digest", "qt_sha256_digest_joined", "qt_labels_tag", "qt_labels_matches", "qt_labels_height", "qt_times_place"],
+    2048: ["qt_gateway_check", "qt_gateway_save", "qt_gateway_load", "qt_filer_file"],
     9216: ["qt_store_check", "qt_store_prove", "qt_store_apply", "qt_shapes_shape", "qt_jointstore_prove"],
     12288: ["qt_jointgateway_check"],
 }

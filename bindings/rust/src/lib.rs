@@ -1,8 +1,9 @@
 //! Quaythistle: the gateway and the store of an archive of blocks, proved for all inputs.
 //!
 //! The store keeps an [`Image`] and proves what stands at a position; the gateway keeps only [`Metadata`], a count and a root label, and
-//! from a proof it works out the metadata after a [`Command`]. Up to 32 positions are read with one [`JointProof`]. A store that lies is
-//! refused, by number: see [`Refusal`]. So is a block filed again right after itself: see [`Refusal::Repeated`].
+//! from a proof it works out the metadata after a [`Command`]. A late block is filed by its time, between its neighbours, whatever place the
+//! store proposes: see [`Metadata::file`]. Up to 32 positions are read with one [`JointProof`]. A store that lies is refused, by number: see
+//! [`Refusal`]. So is a block filed again right after itself: see [`Refusal::Repeated`].
 //!
 //! ```
 //! # fn main() -> Result<(), quaythistle::Refusal> {
@@ -24,6 +25,7 @@
 
 mod command;
 mod digest;
+mod filing;
 mod image;
 mod metadata;
 mod raw;
@@ -32,6 +34,7 @@ pub mod store;
 
 pub use command::Command;
 pub use digest::{digest, digest_joined, height, matches, tag, Digest, Label, Tag};
+pub use filing::{place, Block, Filing};
 pub use image::{Image, JointProof, Proof};
 pub use metadata::{Accepted, Metadata};
 pub use refusal::{Refusal, Which};

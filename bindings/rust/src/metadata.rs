@@ -1,7 +1,7 @@
-//! The gateway: metadata, saved and loaded, and the checks of a command and of a joint proof.
+//! The gateway: metadata, saved and loaded, the checks of a command and of a joint proof, and the filing of a late block.
 
 use crate::raw;
-use crate::{Command, Label, Refusal, Tag};
+use crate::{Command, Filing, Label, Refusal, Tag};
 
 /// What the gateway holds of an archive: its count and its root label.
 #[derive(Clone, Copy, Debug, PartialEq, Eq, Hash)]
@@ -10,13 +10,22 @@ pub struct Metadata {
     pub label: Label,
 }
 
-/// What the gateway answers to a command that it accepts.
+/// What the gateway answers to a command or a filing that it accepts.
 #[derive(Clone, Copy, Debug, PartialEq, Eq, Hash)]
 pub struct Accepted {
     /// The tag at p before the edit, 32 zero bytes for p = 0; Delete so reports the tag removed.
     pub tag: Tag,
     /// The new metadata, worked out from the proofs.
     pub metadata: Metadata,
+}
+
+impl Accepted {
+    fn settled(answer: raw::Answer) -> Result<Accepted, Refusal> {
+        answer.verdict.settled(Accepted {
+            tag: answer.tag.bytes,
+            metadata: Metadata::shown(answer.metadata),
+        })
+    }
 }
 
 impl Metadata {
@@ -86,10 +95,76 @@ impl Metadata {
                 second.len(),
             )
         };
-        answer.verdict.settled(Accepted {
-            tag: answer.tag.bytes,
-            metadata: Metadata::shown(answer.metadata),
-        })
+        Accepted::settled(answer)
+    }
+
+    /// The gateway's filing of a late block by its time: Insert after p of the block's tag, with the blocks at p and at p + 1 and the bytes of
+    /// their proofs. The left block is needed where p is at least 1, the right one and the second proof where p is less than the count held;
+    /// what is not needed is not looked at. Accepted exactly when neither the new block nor a needed one is too long, Insert's check and the
+    /// second proof pass, each needed block matches the tag that its proof shows, and the left time is at or before the new one, which is
+    /// before the right one. So whoever proposes the place: where the times of an archive never fell, they do not fall after a filing, or two
+    /// different messages of equal digest exist. The answer is Insert's; the store then applies [`Filing::insert`] and puts the time into its
+    /// times behind the first p.
+    ///
+    /// Refuses with 11 for the new block, then for a needed one; 12, 2, 3, 4, then 7, 8, 9 on the first proof; 14; 7, 8, 9 on the second; 16;
+    /// 15; in this order.
+    ///
+    /// ```
+    /// # fn main() -> Result<(), quaythistle::Refusal> {
+    /// use quaythistle::{place, Block, Command, Filing, Image, Refusal};
+    /// let evening = Block { time: 1_700_071_200, readings: b"evening" };
+    /// let mut image = Image::new();
+    /// image.apply(&Command::Insert { position: 0, height: 0, tag: evening.tag()? })?;
+    /// let (held, mut times) = (image.metadata(), vec![evening.time]);
+    ///
+    /// let noon = Block { time: 1_700_049_600, readings: b"noon" }; // comes late
+    /// let position = place(&times, noon.time);
+    /// let filing = Filing { position, height: 1, block: noon, left: Block::default(), right: evening };
+    /// let (first, second) = (image.prove(position)?, image.prove(position + 1)?);
+    /// let accepted = held.file(&filing, first.as_bytes(), second.as_bytes())?;
+    ///
+    /// let after = Block { time: evening.time, ..noon };
+    /// let refused = held.file(&Filing { block: after, ..filing }, first.as_bytes(), second.as_bytes());
+    /// assert_eq!(refused, Err(Refusal::OutOfTime));
+    /// let moved = Block { time: evening.time + 1, ..evening };
+    /// let refused = held.file(&Filing { right: moved, ..filing }, first.as_bytes(), second.as_bytes());
+    /// assert_eq!(refused, Err(Refusal::WrongBlock));
+    ///
+    /// image.apply(&filing.insert()?)?;
+    /// times.insert(position as usize, noon.time);
+    /// assert_eq!((accepted.metadata, times), (image.metadata(), vec![noon.time, evening.time]));
+    /// # Ok(())
+    /// # }
+    /// ```
+    pub fn file(
+        &self,
+        filing: &Filing<'_>,
+        first: &[u8],
+        second: &[u8],
+    ) -> Result<Accepted, Refusal> {
+        let (block, left, right) = (
+            filing.block.readings,
+            filing.left.readings,
+            filing.right.readings,
+        );
+        // SAFETY: each pointer and length are those of a slice, and a slice that is written is lent alone.
+        let answer = unsafe {
+            raw::qt_filer_file(
+                self.plain(),
+                filing.plain(),
+                block.as_ptr(),
+                block.len(),
+                left.as_ptr(),
+                left.len(),
+                right.as_ptr(),
+                right.len(),
+                first.as_ptr(),
+                first.len(),
+                second.as_ptr(),
+                second.len(),
+            )
+        };
+        Accepted::settled(answer)
     }
 
     /// The gateway's check of a joint proof of these positions: the tags at them, in their order. It is accepted exactly when it has the

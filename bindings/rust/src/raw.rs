@@ -32,6 +32,16 @@ pub struct Command {
 }
 
 #[repr(C)]
+#[derive(Clone, Copy)]
+pub struct Filing {
+    pub position: u64,
+    pub height: u32,
+    pub time: u32,
+    pub left_time: u32,
+    pub right_time: u32,
+}
+
+#[repr(C)]
 pub struct Digested {
     pub verdict: Verdict,
     pub digest: Digest,
@@ -137,10 +147,25 @@ extern "C" {
         proof: *const u8,
         length: usize,
     ) -> JointAnswer;
+    pub fn qt_times_place(times: *const u32, number: usize, time: u32) -> u64;
+    pub fn qt_filer_file(
+        metadata: Metadata,
+        filing: Filing,
+        readings: *const u8,
+        readings_length: usize,
+        left: *const u8,
+        left_length: usize,
+        right: *const u8,
+        right_length: usize,
+        first: *const u8,
+        first_length: usize,
+        second: *const u8,
+        second_length: usize,
+    ) -> Answer;
 }
 
 impl Verdict {
-    /// What the call answers where it is done, else the refusal, with the proof of a command that it speaks of.
+    /// What the call answers where it is done, else the refusal, with the proof of a command or a filing that it speaks of.
     pub fn settled<T>(self, answer: T) -> Result<T, Refusal> {
         let which = match self.proof {
             2 => Which::Second,
@@ -174,6 +199,7 @@ mod tests {
         assert_eq!((size_of::<Verdict>(), align_of::<Verdict>()), (8, 4));
         assert_eq!((size_of::<Metadata>(), align_of::<Metadata>()), (40, 8));
         assert_eq!((size_of::<Command>(), align_of::<Command>()), (48, 8));
+        assert_eq!((size_of::<Filing>(), align_of::<Filing>()), (24, 8));
         assert_eq!((size_of::<Digested>(), align_of::<Digested>()), (40, 4));
         assert_eq!((size_of::<Matched>(), align_of::<Matched>()), (12, 4));
         assert_eq!(size_of::<MetadataAnswer>(), 48);
@@ -189,7 +215,7 @@ mod tests {
         let verdict = |refusal, proof| Verdict { refusal, proof };
         assert_eq!(verdict(0, 0).settled(7), Ok(7));
         assert_eq!(verdict(0, 0).settled_at_place(7), Ok(7));
-        for number in 1..=14 {
+        for number in 1..=16 {
             let speaks = |which| Some(which).filter(|_| (7..=9).contains(&number));
             for (proof, which) in [(1, Which::First), (2, Which::Second)] {
                 let refusal = verdict(number, proof).settled(7).unwrap_err();

@@ -3,8 +3,8 @@
 use std::error::Error;
 use std::fmt;
 
-/// Which proof of a command. Delete carries two; the others one, their `First`. Of a joint proof the `Place`: 1 to 32 the proof spelled out
-/// for the first, second, .. of the positions, 0 the joint proof's own form.
+/// Which proof of a command or a filing. Delete and a filing carry two; the others one, their `First`. Of a joint proof the `Place`: 1 to 32
+/// the proof spelled out for the first, second, .. of the positions, 0 the joint proof's own form.
 #[derive(Clone, Copy, Debug, PartialEq, Eq, Hash)]
 pub enum Which {
     First,
@@ -12,7 +12,7 @@ pub enum Which {
     Place(u8),
 }
 
-/// Why a call will not, in the order of their numbers, 1 to 14. A refusal changes nothing that the call was lent.
+/// Why a call will not, in the order of their numbers, 1 to 16. A refusal changes nothing that the call was lent.
 #[derive(Clone, Copy, Debug, PartialEq, Eq, Hash)]
 pub enum Refusal {
     /// 1: buffer under 7 bytes, version not 1, length not 2 + 33n, n over 4,096, buffer shorter than the image, or a height over 15.
@@ -45,8 +45,13 @@ pub enum Refusal {
     BadSet,
     /// 14: Insert after p, p at least 1, of the tag at p: a block that comes again and is filed where it belongs, right after its first copy.
     /// No other tag is looked at: the same command sent again, word for word, names the place before the copy, which stands at p + 1 by
-    /// then, and is not refused.
+    /// then, and is not refused. Filed by its time, a block that comes again is placed anew, right after the copy, and is refused; unless
+    /// another block of the same time has come in after the copy.
     Repeated,
+    /// 15: a filing by time: the block at p is later than the new one, or the block at p + 1 is not.
+    OutOfTime,
+    /// 16: a filing by time: the block lent as that at p, or as that at p + 1, does not match the tag that the proof shows there.
+    WrongBlock,
 }
 
 impl Refusal {
@@ -56,7 +61,7 @@ impl Refusal {
     /// use quaythistle::{Refusal, Which};
     /// assert_eq!(Refusal::BadImage.number(), 1);
     /// assert_eq!(Refusal::BadProof(Which::Second).number(), 7);
-    /// assert_eq!(Refusal::Repeated.number(), 14);
+    /// assert_eq!(Refusal::WrongBlock.number(), 16);
     /// ```
     pub fn number(self) -> u32 {
         match self {
@@ -74,6 +79,8 @@ impl Refusal {
             Refusal::BadMetadata => 12,
             Refusal::BadSet => 13,
             Refusal::Repeated => 14,
+            Refusal::OutOfTime => 15,
+            Refusal::WrongBlock => 16,
         }
     }
 
@@ -117,6 +124,8 @@ impl Refusal {
             Refusal::BadMetadata => "BAD METADATA",
             Refusal::BadSet => "BAD SET",
             Refusal::Repeated => "REPEATED",
+            Refusal::OutOfTime => "OUT OF TIME",
+            Refusal::WrongBlock => "WRONG BLOCK",
         }
     }
 
@@ -138,6 +147,8 @@ impl Refusal {
             12 => Some(Refusal::BadMetadata),
             13 => Some(Refusal::BadSet),
             14 => Some(Refusal::Repeated),
+            15 => Some(Refusal::OutOfTime),
+            16 => Some(Refusal::WrongBlock),
             _ => unreachable!("no call refuses with {number}"),
         }
     }
