@@ -3,10 +3,11 @@
 // entries, or metadata other than that of the edited image, ends the program with status 3.
 // Of a set of 32 positions POSITION is the first, HEIGHT the step to the next, and ENTRIES "LENGTH/SUM": the bytes of its joint proof and
 // of its single proofs. HOW "write" makes these proofs, has the gateway read both, and keeps them in the file IMAGE.proofs; the gateway's
-// turns take them from there, so that a counter does not see them made.
+// turns take them from there, so that a counter does not see them made. So it is of a block filed by its time after POSITION, with ENTRIES
+// "K/L" of the proofs of POSITION and of the next: "write" puts two blocks there, and has the late one filed between them.
 #include "../include/quaythistle.h"
 #include "measure.h"
-enum { COPIES = 4, TIME = 1700000000 };
+enum { COPIES = 4, TIME = 1700000000, HOUR = 3600, BLOCK = 1000 };
 static uint8_t images[COPIES][QT_IMAGE_SIZE(QT_MOST_BLOCKS + 1)], first[QT_LONGEST_PROOF], second[QT_LONGEST_PROOF];
 static uint8_t message[QT_LONGEST_MESSAGE], front[QT_LONGEST_MESSAGE - QT_LONGEST_READINGS], readings[QT_LONGEST_READINGS];
 static uint8_t saved[QT_SAVED_SIZE];
@@ -17,6 +18,8 @@ static qt_command command;
 static int copy;
 static uint64_t set[QT_MOST_POSITIONS], joint_size, sum;
 static uint8_t joint[QT_LONGEST_JOINT], single[QT_MOST_POSITIONS][QT_LONGEST_PROOF];
+static qt_filing filing;
+static uint32_t times[QT_MOST_BLOCKS], due;
 
 // One turn for each export.
 static void nothing(void *a) { kept = 0, (void)a; }
@@ -57,11 +60,31 @@ static void check_singly(void *a) {
     kept = refused, (void)a;
 }
 
+// A block filed by its time, and what that has in it: Insert's check, Read's check of the block after, and the tags of three blocks.
+static void file(void *a) {
+    qt_answer f = qt_filer_file(held, filing, readings, BLOCK, readings, BLOCK, readings, BLOCK, first, first_size, second, second_size);
+    kept = f.verdict.refusal != due, (void)a;
+}
+static void file_insert(void *a) { kept = qt_gateway_check(held, command, first, first_size, 0, 0).verdict.refusal, (void)a; }
+static void file_read(void *a) {
+    qt_command after = {.operation = QT_READ, .position = command.position + 1};
+    kept = qt_gateway_check(held, after, second, second_size, 0, 0).verdict.refusal, (void)a;
+}
+static void file_tags(void *a) {
+    uint32_t refused = qt_labels_tag(filing.time, readings, BLOCK).verdict.refusal;
+    refused |= qt_labels_matches(held.label, filing.left_time, readings, BLOCK).verdict.refusal;
+    kept = refused | qt_labels_matches(held.label, filing.right_time, readings, BLOCK).verdict.refusal, (void)a;
+}
+// The times are all before this one, so that each is looked at.
+static void place(void *a) { kept = qt_times_place(times, QT_MOST_BLOCKS, TIME) != QT_MOST_BLOCKS, (void)a; }
+
 static const struct { const char *name; void (*turn)(void *); int operation; } calls[] = {
     {"nothing", nothing, 0}, {"digest", digest, 0}, {"joined", joined, 0}, {"tag", tag, 0}, {"matches", matches, 0},
     {"height", height, 0}, {"check", check, 0}, {"prove", prove, 0}, {"shape", shapes, 0}, {"save", save, 0}, {"load", load, 0},
     {"prove-jointly", prove_jointly, 0}, {"prove-singly", prove_singly, 0},
     {"check-jointly", check_jointly, QT_READ}, {"check-singly", check_singly, QT_READ},
+    {"file", file, QT_INSERT}, {"file-refused", file, QT_INSERT}, {"file-insert", file_insert, QT_INSERT}, {"file-read", file_read, QT_INSERT},
+    {"file-tags", file_tags, QT_INSERT}, {"place", place, 0},
     {"read", gate, QT_READ}, {"replace", gate, QT_REPLACE}, {"insert", gate, QT_INSERT}, {"delete", gate, QT_DELETE},
     {"apply-read", apply, QT_READ}, {"apply-replace", apply, QT_REPLACE}, {"apply-insert", apply, QT_INSERT}, {"apply-delete", apply, QT_DELETE}};
 
@@ -122,6 +145,43 @@ static void ready_set(const char *image, const char *bytes, const char *how, voi
     expect(f && fread(&held, sizeof held, 1, f) && fread(joint, sizeof joint, 1, f) && fread(single, sizeof single, 1, f));
 }
 
+// The image gets the two neighbours. What the gateway answers is held against its check of Insert and the metadata of the edited image.
+static void write_filing(const char *entries, FILE *f) {
+    char *next;
+    uint64_t k = strtoul(entries, &next, 10), p = command.position;
+    qt_command neighbours[2] = {{.operation = QT_REPLACE, .position = p}, {.operation = QT_REPLACE, .position = p + 1}};
+    for (int i = 0; i < 2; i++) {
+        neighbours[i].tag = qt_labels_tag(i ? filing.right_time : filing.left_time, readings, BLOCK).digest;
+        expect(!qt_store_apply(images[0], sizeof images[0], neighbours[i]).verdict.refusal);
+    }
+    held = qt_store_check(images[0], size).metadata;
+    first_size = proof(p, first, k), second_size = proof(p + 1, second, strtoul(next + 1, 0, 10));
+    qt_answer one = qt_gateway_check(held, command, first, first_size, 0, 0);
+    qt_answer a = qt_filer_file(held, filing, readings, BLOCK, readings, BLOCK, readings, BLOCK, first, first_size, second, second_size);
+    expect(!a.verdict.refusal && !memcmp(&a, &one, sizeof a) && !qt_store_apply(images[0], sizeof images[0], command).verdict.refusal);
+    qt_metadata edited = qt_store_check(images[0], sizeof images[0]).metadata;
+    expect(f && !memcmp(&a.metadata, &edited, sizeof edited));
+    expect(fwrite(&held, sizeof held, 1, f) && fwrite(first, sizeof first, 1, f) && fwrite(second, sizeof second, 1, f) && !fclose(f));
+}
+
+static bool of_filing(void (*turn)(void *)) { return turn == file || turn == file_insert || turn == file_read || turn == file_tags; }
+
+// One block an hour; refused with 15 it has the time of the next.
+static void ready_filing(const char *name, const char *image, const char *entries, const char *how) {
+    char path[4096];
+    filing = (qt_filing){command.position, command.height, TIME, TIME - HOUR, TIME + HOUR};
+    command.tag = qt_labels_tag(filing.time, readings, BLOCK).digest;
+    snprintf(path, sizeof path, "%s.proofs", image);
+    if (!strcmp(how, "write")) {
+        write_filing(entries, fopen(path, "wb"));
+        exit(0);
+    }
+    FILE *f = fopen(path, "rb");
+    expect(f && fread(&held, sizeof held, 1, f) && fread(first, sizeof first, 1, f) && fread(second, sizeof second, 1, f));
+    first_size = length_of(first), second_size = length_of(second);
+    if (!strcmp(name, "file-refused")) filing.time = filing.right_time, due = QT_OUT_OF_TIME;
+}
+
 int main(int n, char **v) {
     FILE *f = n == 8 ? fopen(v[2], "rb") : 0;
     if (!f || !(size = fread(images[0], 1, sizeof images[0], f))) return 2;
@@ -134,6 +194,7 @@ int main(int n, char **v) {
         if (calls[i].turn == gate) ready_gateway(v[5]);
         if (calls[i].turn == prove) proof(command.position, first, atol(v[5]));
         if (of_set(calls[i].turn)) ready_set(v[2], v[5], v[6], calls[i].turn);
+        if (of_filing(calls[i].turn)) ready_filing(v[1], v[2], v[5], v[6]);
         if (calls[i].turn == load) memcpy(saved, qt_gateway_save(held).bytes, sizeof saved);
         int status = measure(v[6], v[7], calls[i].turn, 0);
         return status ? status : kept ? 3 : 0;

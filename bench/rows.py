@@ -86,6 +86,16 @@ def insert(k, height):
     return (k + 1) + (k + 2 if height == 0 else k + 3)
 
 
+def tag(length):
+    """The 64-byte blocks of a tag: seven bytes, the readings, and the nine that end a message."""
+    return (7 + length + 9 + 63) // 64
+
+
+def filing(k, after, height, length):
+    """Insert's check, Read's of the block after, and the tags of three blocks, as if their blocks made labels."""
+    return insert(k, height) + read(after) + 3 * tag(length) / BLOCKS
+
+
 def delete(first, second):
     """Both checks, then the first's stop leaf, both paths' entries below the place where they part, and the entries above it."""
     k, l, j = len(first), len(second), shared(first, second)

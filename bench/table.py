@@ -299,6 +299,45 @@ def joint():
         line([name] + [cell for x, y in pairs[call] for cell in (number(x), number(y), f"{x / y:.2f}")] + [thesis])
 
 
+# A late block filed by its time in the middle of a row, beside the calls that a filing has in it.
+FILED, READINGS, NEW_HEIGHT = (1000, MOST - 1), 1000, 5
+PARTS = [
+    ("Insert's check, with the proof of p", "file-insert"),
+    ("Read's check, with the proof of p + 1", "file-read"),
+    ("the tags of the three blocks", "file-tags"),
+]
+FILINGS = [("gateway, filing", "file"), ("gateway, filing refused with 15", "file-refused")]
+
+
+def filing_words(name, heights, p):
+    """What calls.c is asked of a filing, whose neighbours and proofs are made and kept."""
+    entries = [len(rows.path(heights, q)[0]) for q in (p, p + 1)]
+    words = image(name, heights), p, NEW_HEIGHT, "{}/{}".format(*entries)
+    ask("write", "calls", "file", *words)
+    return words, entries
+
+
+def filing_case(n):
+    return filing_words(f"filing-{n}", rows.drawn(n), n // 2)
+
+
+def filing(bill):
+    heading("Filing", f"A block of {READINGS:,} bytes filed by its time between two of the same length, after p = n / 2, heights drawn, its own {NEW_HEIGHT}; n is at most 4,095,\n"
+            "since 4,096 is full. In brackets: the ratios to Insert's check, and to the three calls together. Refused with 15: the time is the next block's.",
+            ["", *(f"n = {n:,}" for n in FILED)])
+    cells = {name: [] for name, _ in PARTS + [("together", "")] + FILINGS}
+    for n in FILED:
+        words, entries = filing_case(n)
+        own = {name: count("calls", call, *words) for name, call in PARTS + FILINGS}
+        parts = [own[name] for name, _ in PARTS]
+        own["together"] = sum(parts)
+        bill.cell(FILINGS[0][0], own[FILINGS[0][0]], rows.filing(*entries, NEW_HEIGHT, READINGS))
+        for name, row in cells.items():
+            row.append(f"{own[name]:,} ({own[name] / parts[0]:.3f}; {own[name] / own['together']:.3f})")
+    for name, row in cells.items():
+        line([name, *row])
+
+
 def apply():
     heading("Apply", "Heights drawn; nothing is hashed. Front: position 1 (Insert: after 0), so that every other record moves; back: the last position. Insert is\n"
             "taken at n = 4,095, since 4,096 is full.", ["", "front", "back", "for each height looked at", "for each byte moved"])
@@ -320,6 +359,7 @@ SHORT = [
     ("`labels::height`", "height"),
     ("`gateway::saved::save`", "save"),
     ("`gateway::saved::load`", "load"),
+    (f"`times::place` after {MOST:,} times", "place"),
 ]
 
 
@@ -351,16 +391,14 @@ STACKS = [
     ("qt_gateway_load", ["load"], "load"),
     ("qt_jointstore_prove", ["prove-jointly"], "prove_jointly"),
     ("qt_jointgateway_check", ["check-jointly"], "check_jointly"),
+    ("qt_times_place", ["place"], "place"),
+    ("qt_filer_file", ["file"], "file"),
 ]
 
 
 # Of these the dearest way is told, and of the digest also what it takes without the C interface, as the gateway calls it.
-WAYS = ["qt_sha256_digest", "qt_gateway_check", "qt_jointgateway_check"]
+WAYS = ["qt_sha256_digest", "qt_gateway_check", "qt_filer_file", "qt_jointgateway_check"]
 INNER = "sha256::digest"
-
-
-def of_set(call):
-    return call.endswith("jointly")
 
 
 def stacks():
@@ -369,9 +407,10 @@ def stacks():
     bound = stackuse.bounds([LIBRARY], [name for name, _, _ in STACKS] + [INNER])
     heights, p = rows.stairs(200)
     file, k = image("stack", heights), [len(rows.path(heights, q)[0]) for q in (p - 1, p)]
-    many = set_words("stack-joint", heights, p - POSITIONS + 1, 1)[0]
+    many, late = set_words("stack-joint", heights, p - POSITIONS + 1, 1)[0], filing_words("stack-filing", heights, p)[0]
+    own_words = {"delete": (file, p, 5, f"{k[0]}/{k[1]}"), "prove-jointly": many, "check-jointly": many, "file": late}
     for name, calls, turn in STACKS:
-        deep = {c: stack(turn, "calls", c, *(many if of_set(c) else (file, p, 5, f"{k[0]}/{k[1]}" if c == "delete" else k[1]))) for c in calls}
+        deep = {c: stack(turn, "calls", c, *own_words.get(c, (file, p, 5, k[1]))) for c in calls}
         own = bound[name][3][0][1]
         if name == "qt_sha256_digest":
             line([f"`{INNER}`, without the C interface", number(bound[INNER][1]), number(max(deep.values()) - own)])
@@ -385,19 +424,21 @@ def stacks():
 def times():
     gate = {f"gateway, {name}": [gateway_case(call, *rows.stairs(k), height)[0] for k in (16, 200)] for name, call, height in COMMANDS}
     kept = {f"store, {call}": [store_case(call, "drawn", n)[0] for n in (256, MOST)] for call in ("check", "prove")}
+    late = {name: [(call, *filing_case(n)[0]) for n in FILED] for name, call in FILINGS}
     best = {}
     for _ in range(ROUNDS):
-        for words in [w for cases in [*gate.values(), *kept.values()] for w in cases]:
+        for words in [w for cases in [*gate.values(), *kept.values(), *late.values()] for w in cases]:
             now = nanoseconds("calls", *words)
             best[words] = min(now, best.get(words, now))
     for cases, title, text, ends in (
         (gate, "Time", "Microseconds of processor time, natively: the least of 150 runs. The calls are timed in turn, five times round.", ["k = 16", "k = 200"]),
         (kept, None, None, ["n = 256", "n = 4,096"]),
+        (late, None, None, [f"n = {n:,}" for n in FILED]),
     ):
         heading(title, text, ["", *ends])
         for name, pair in cases.items():
             line([name] + [f"{best[words] / 1000:,.0f}" for words in pair])
-        print(end="\n" if title else "")
+        print(end="" if cases is late else "\n")
 
 
 def main():
@@ -408,6 +449,7 @@ def main():
     bill.say()
     gateway(bill)
     store(bill)
+    filing(bill)
     bill.say_worst()
     joint()
     apply()
