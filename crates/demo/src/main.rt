@@ -1,126 +1,34 @@
 // A told story, all of it through the public calls: the archive of a night, a late block filed in its middle and sent a second time,
-// five stores that lie, two nights with the same readings, and the morning check in one reply. The gateway keeps only `Metadata`; image
-// and proofs are in the store's hands.
-use commands::Command;
+// five stores that lie, two nights with the same readings, the morning check in one reply, and a whole outage filed by its times. The
+// gateway keeps only `Metadata`; image and proofs are in the store's hands.
+use crate::words::HOUR;
+use crate::words::MIDNIGHT;
+use crate::words::PROOF;
+use crate::words::asked;
+use crate::words::command;
+use crate::words::empty_archive;
+use crate::words::front;
+use crate::words::held;
+use crate::words::judged;
+use crate::words::lie;
+use crate::words::proved;
+use crate::words::read;
+use crate::words::say;
+use crate::words::say_agrees;
+use crate::words::say_metadata;
+use crate::words::say_verdict;
+use crate::words::tag_of;
 use commands::Metadata;
 use commands::Operation;
-use gateway::Answer;
-use refusals::Refusal;
 use refusals::Verdict;
 
-const IMAGE: usize = 512;
-
-const PROOF: usize = 1024;
+mod outage;
+mod words;
 
 const JOINT: usize = 2048;
 
-// Sample times, in seconds: the night's midnight, an hour, a day.
-const MIDNIGHT: u32 = 1_794_700_800;
-
-const HOUR: u32 = 3_600;
-
+// A day, in seconds.
 const DAY: u32 = 86_400;
-
-fn say(text: &[u8]) {
-    io::write_all(1, text);
-}
-
-// The first four bytes, enough to tell the labels of this story apart.
-fn say_label(label: [u8; 32]) {
-    io::print_hex(1, octets::four_at(&label, 0), 8);
-    say(b"..");
-}
-
-fn say_metadata(m: Metadata) {
-    say(b"count ");
-    io::print_decimal(1, m.count);
-    say(b", label ");
-    let label = m.label;
-    say_label(label);
-}
-
-fn name(r: Refusal) {
-    match r {
-        Refusal::BadImage => say(b"BAD IMAGE"),
-        Refusal::BadPosition => say(b"BAD POSITION"),
-        Refusal::BadHeight => say(b"BAD HEIGHT"),
-        Refusal::Full => say(b"FULL"),
-        Refusal::NoRoom => say(b"NO ROOM"),
-        Refusal::TooDeep => say(b"TOO DEEP"),
-        Refusal::BadProof(_) => say(b"BAD PROOF"),
-        Refusal::WrongPosition(_) => say(b"WRONG POSITION"),
-        Refusal::WrongLabel(_) => say(b"WRONG LABEL"),
-        Refusal::NotNeighbours => say(b"NOT NEIGHBOURS"),
-        Refusal::LongMessage => say(b"LONG MESSAGE"),
-        Refusal::BadMetadata => say(b"BAD METADATA"),
-        Refusal::BadSet => say(b"BAD SET"),
-        Refusal::Repeated => say(b"REPEATED"),
-    }
-}
-
-fn say_verdict(v: Verdict) {
-    match v {
-        Verdict::Done => say(b"    accepted"),
-        Verdict::Refused(r) => {
-            say(b"    refused ");
-            io::print_decimal(1, refusals::number(r) as u64);
-            say(b" ");
-            name(r);
-        }
-    }
-}
-
-fn tag_of(time: u32, readings: &[u8]) -> [u8; 32] {
-    let t = labels::tag(time, readings);
-    t.tag
-}
-
-fn command(operation: Operation, position: u64, height: u8, tag: [u8; 32]) -> Command {
-    Command {
-        operation,
-        position,
-        height,
-        tag,
-    }
-}
-
-fn read(position: u64) -> Command {
-    command(Operation::Read, position, 0, [0u8; 32])
-}
-
-// The gateway's answer to a command with the first n bytes of `proof`.
-fn judged(m: Metadata, k: Command, proof: &[u8], n: usize) -> Answer {
-    if proof.len() < n {
-        return gateway::check(m, k, b"", b"");
-    }
-    gateway::check(m, k, &proof[0..n], b"")
-}
-
-// The store proves position `shown`, into the front of `proof`; the length of what it wrote.
-fn proved(image: &[u8], shown: u64, proof: &mut [u8]) -> usize {
-    let p = store::prove(image, shown, proof, 0);
-    p.length as usize
-}
-
-// The gateway's answer to a command with the store's proof of position `shown`.
-fn asked(m: Metadata, k: Command, image: &[u8], shown: u64) -> Answer {
-    let mut proof = [0u8; PROOF];
-    let n = proved(image, shown, &mut proof);
-    judged(m, k, &proof, n)
-}
-
-// An archive of no block, at the start of a buffer.
-fn empty_archive() -> [u8; 512] {
-    let mut image = [0u8; IMAGE];
-    image[0] = 1;
-    image[4] = 2;
-    image
-}
-
-fn held(image: &[u8]) -> Metadata {
-    let c = store::check(image);
-    c.metadata
-}
 
 // One honest filing: the store proves the place, the gateway checks and predicts, the store applies. What the gateway then holds.
 fn filed(
@@ -179,25 +87,6 @@ fn night(image: &mut [u8]) -> Metadata {
         MIDNIGHT + 4 * HOUR,
         b"level 4.42 m",
     )
-}
-
-// The same label, byte by byte?
-fn agrees(a: Metadata, b: Metadata) -> bool {
-    let x = a.label;
-    let y = b.label;
-    a.count == b.count && octets::same32(x, y)
-}
-
-// What is held or found, and whether it is what it is said to be.
-fn say_agrees(seen: Metadata, wanted: Metadata, what: &[u8]) {
-    say_metadata(seen);
-    if agrees(wanted, seen) {
-        say(b", as ");
-    } else {
-        say(b", NOT as ");
-    }
-    say(what);
-    say(b"\n");
 }
 
 fn say_proof(image: &[u8], p: u64) {
@@ -262,16 +151,6 @@ fn sent_again(m: Metadata, image: &mut [u8]) {
     say_after(w, b"the store's image, checked afresh: ", held(image), m);
 }
 
-// One lie: what the store does, and what the gateway says.
-fn lie(what: &[u8], a: Answer, why: &[u8]) {
-    let v = a.verdict;
-    say(what);
-    say_verdict(v);
-    say(b": ");
-    say(why);
-    say(b"\n");
-}
-
 // It files the late block at the end, under its time of arrival.
 fn files_at_the_end(m: Metadata, before: [u8; 512]) {
     let mut image = before;
@@ -332,14 +211,8 @@ fn flips_a_bit(m: Metadata, image: &[u8]) {
 
 // Delete 2, with the first j bytes of one proof and the first k of another: what the gateway holds afterwards.
 fn deleted(m: Metadata, first: &[u8], j: usize, second: &[u8], k: usize) -> Metadata {
-    if first.len() < j {
-        return m;
-    }
-    if second.len() < k {
-        return m;
-    }
     let c = command(Operation::Delete, 2, 0, [0u8; 32]);
-    let a = gateway::check(m, c, &first[0..j], &second[0..k]);
+    let a = gateway::check(m, c, front(first, j), front(second, k));
     a.metadata
 }
 
@@ -456,10 +329,7 @@ fn proved_jointly(image: &[u8], positions: &[u64], proof: &mut [u8]) -> usize {
 
 // The gateway's answer to the first n bytes of a joint proof.
 fn judged_jointly(m: Metadata, positions: &[u64], proof: &[u8], n: usize) -> jointgateway::Answer {
-    if proof.len() < n {
-        return jointgateway::check(m, positions, b"");
-    }
-    jointgateway::check(m, positions, &proof[0..n])
+    jointgateway::check(m, positions, front(proof, n))
 }
 
 // Is the third tag that of the late block?
@@ -546,4 +416,5 @@ fn main() {
     say(b"\n");
     idle_nights();
     morning(m, &mut image);
+    outage::told();
 }
