@@ -11,7 +11,7 @@ import rows
 import stackuse
 
 TARGET, MACHINE = sys.argv[1], sys.argv[2:]
-LIBRARY = "target/staticlib/libquaythistle.a"
+LIBRARY = "crates/quaythistle/out/libquaythistle.a"
 NATIVE = os.uname().machine == "x86_64"
 CALLGRIND = NATIVE and os.environ.get("COUNTER") != "plugin"
 METHOD = (

@@ -1,7 +1,7 @@
 /*
  * Quaythistle: the gateway and the store of an archive, for C and C++.
  *
- * Link with libquaythistle.a (`rt staticlib quaythistle` writes target/staticlib/libquaythistle.a, for x86-64 Linux). It needs memcpy,
+ * Link with libquaythistle.a (`rt lib` in crates/quaythistle writes it into the folder out/ there, for x86-64 Linux). It needs memcpy,
  * memmove and memset of the C library and nothing else: no call allocates, keeps anything between calls, reads or writes a file, or fails
  * in a way that its answer does not tell. Calls on different buffers may run at once.
  *

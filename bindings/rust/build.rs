@@ -1,7 +1,7 @@
 //! Finds the static library of the C interface, or has `rt` make it.
 //!
-//! `QUAYTHISTLE_LIB` names `libquaythistle.a` or its folder; without it the library is the one in the repository's `target/staticlib`, and
-//! where there is none, `rt staticlib quaythistle` makes it. With `QUAYTHISTLE_LIB=none` nothing is linked: enough for `cargo check`.
+//! `QUAYTHISTLE_LIB` names `libquaythistle.a` or its folder; without it the library is the one in the repository's `crates/quaythistle/out`,
+//! and where there is none, `rt lib` in `crates/quaythistle` makes it. With `QUAYTHISTLE_LIB=none` nothing is linked: enough for `cargo check`.
 
 use std::env;
 use std::path::{Path, PathBuf};
@@ -42,21 +42,21 @@ fn named(path: &Path) -> PathBuf {
     folder.to_path_buf()
 }
 
-/// `rt staticlib quaythistle`, at the repository's root.
-fn make(root: &Path) {
+/// `rt lib`, in the crate's folder.
+fn make(crate_folder: &Path) {
     let run = Command::new("rt")
-        .args(["staticlib", "quaythistle"])
-        .current_dir(root)
+        .arg("lib")
+        .current_dir(crate_folder)
         .output();
     match run {
         Ok(output) if output.status.success() => {}
         Ok(output) => fail(&format!(
-            "`rt staticlib quaythistle` failed:\n{}{}",
+            "`rt lib` in crates/quaythistle failed:\n{}{}",
             String::from_utf8_lossy(&output.stdout),
             String::from_utf8_lossy(&output.stderr)
         )),
         Err(error) => fail(&format!(
-            "there is no {ARCHIVE} in target/staticlib, and `rt staticlib quaythistle` cannot be run ({error}). \
+            "there is no {ARCHIVE} in crates/quaythistle/out, and `rt lib` cannot be run there ({error}). \
              Install the Rattle kit, or name the library by QUAYTHISTLE_LIB"
         )),
     }
@@ -65,10 +65,10 @@ fn make(root: &Path) {
 /// The folder of the repository's own library, which is made where it is missing.
 fn found_or_made() -> PathBuf {
     let here = PathBuf::from(env::var_os("CARGO_MANIFEST_DIR").unwrap_or_default());
-    let root = here.join("../..");
-    let folder = root.join("target/staticlib");
+    let crate_folder = here.join("../../crates/quaythistle");
+    let folder = crate_folder.join("out");
     if !folder.join(ARCHIVE).is_file() {
-        make(&root);
+        make(&crate_folder);
     }
     folder
 }

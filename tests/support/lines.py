@@ -5,7 +5,7 @@ import sys
 from pathlib import Path
 
 ROOT = Path(__file__).resolve().parent.parent.parent
-IMPORT = re.compile(r"use Rattle·(\w+)(?:·specs)?\.specs\.([\w.·-]+?)(?:\.\{(.*)\}| as (\S+))?$")
+IMPORT = re.compile(r"use Rattle\.(\w+)\.specs\.([\w.-]+?)(?:\.\{(.*)\}| as (\S+))?$")
 NAMED = re.compile(r"(?:(?:abbrev|unfoldable|pub)\s+)*(?:(?:record|data)\s+(\S+)|(?!→)(\S+) :)")
 
 
@@ -57,7 +57,7 @@ MODULES = dict(modules())
 
 def mentioned(name, words):
     """Is the name, or the operator that it is the name of, among the words?"""
-    return name in words or (name.startswith("_") and name.strip("_") in words)
+    return name in words or (name.startswith("◌") and name.strip("◌") in words)
 
 
 def needed(crate, module, name):

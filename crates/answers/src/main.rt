@@ -1,11 +1,14 @@
 // Calls in frames on standard input, answers in frames on standard output, so that any program can be compared with this one call
 // by call. docs/TESTING.md has the frames. A bad frame ends the run with a line that says so; input that ends between frames ends
 // it silently.
-ghost use Rattle.std.specs.Prelude.{◌≡◌, ◌+◌, ◌*◌, ◌≤◌, length};
+#![tactic(auto)]
+
+ghost use Rattle.std.specs.Prelude.{◌≡◌, ◌+◌, ◌*◌, ◌≤◌, IfOk, length};
 
 use commands::{Command, Metadata, Operation};
 use filer::Filing;
 use refusals::Verdict;
+use std::io::{self, ErrorKind, Read};
 
 const MOST_FRAME: usize = 200000;
 
@@ -22,7 +25,7 @@ const MOST_POSITIONS: usize = 255;
 const UNTOUCHED: u8 = 0xA5;
 
 // Every field of an answer; those that a call does not speak of are zero.
-#[derive(Drop)]
+#[derive(Clone, Copy)]
 struct Fields {
     verdict: Verdict,
     tag: [u8; 32],
@@ -100,11 +103,11 @@ fn put_fields(d: &mut [u8], f: Fields, lent: usize)
     put_numbers(d, f);
 }
 
-fn send(f: Fields, lent: &[u8]) {
+fn send(rt: &impl Print, f: Fields, lent: &[u8]) -> io::Result<()> {
     let mut d = [0u8; 87];
     put_fields(&mut d, f, lent.len());
-    io::write_all(1, &d);
-    io::write_all(1, lent);
+    rt.write_all(&d)?;
+    rt.write_all(lent)
 }
 
 // A four-byte number and 32 bytes of a request.
@@ -147,17 +150,17 @@ fn command(r: &[u8], at: usize) -> Command
 }
 
 // Each call answers whether its frame was well formed.
-fn call_digest(r: &[u8]) -> bool {
+fn call_digest(rt: &impl Print, r: &[u8]) -> io::Result<bool> {
     if r.len() < 1 {
-        return false;
+        return Ok(false);
     }
     let d = sha256::digest(&r[1..]);
     let v = d.verdict;
     let mut f = blank(v);
     let tag = d.bytes;
     f.tag = tag;
-    send(f, b"");
-    true
+    send(rt, f, b"")?;
+    Ok(true)
 }
 
 // A sample time in four bytes.
@@ -167,44 +170,44 @@ fn time(r: &[u8], at: usize) -> u32
     octets::four_at(r, at) as u32
 }
 
-fn call_match(r: &[u8]) -> bool {
+fn call_match(rt: &impl Print, r: &[u8]) -> io::Result<bool> {
     if r.len() < 37 {
-        return false;
+        return Ok(false);
     }
     let m = labels::matches(octets::bytes32(r, 1), time(r, 33), &r[37..]);
     let v = m.verdict;
     let mut f = blank(v);
     f.yes = m.yes;
-    send(f, b"");
-    true
+    send(rt, f, b"")?;
+    Ok(true)
 }
 
-fn call_tag(r: &[u8]) -> bool {
+fn call_tag(rt: &impl Print, r: &[u8]) -> io::Result<bool> {
     if r.len() < 5 {
-        return false;
+        return Ok(false);
     }
     let t = labels::tag(time(r, 1), &r[5..]);
     let v = t.verdict;
     let mut f = blank(v);
     let tag = t.tag;
     f.tag = tag;
-    send(f, b"");
-    true
+    send(rt, f, b"")?;
+    Ok(true)
 }
 
-fn call_height(r: &[u8]) -> bool {
+fn call_height(rt: &impl Print, r: &[u8]) -> io::Result<bool> {
     if r.len() < 3 {
-        return false;
+        return Ok(false);
     }
     let mut f = blank(Verdict::Done);
     f.count = labels::height(octets::two_at(r, 1) as u16) as u64;
-    send(f, b"");
-    true
+    send(rt, f, b"")?;
+    Ok(true)
 }
 
-fn call_save(r: &[u8]) -> bool {
+fn call_save(rt: &impl Print, r: &[u8]) -> io::Result<bool> {
     if r.len() < 37 {
-        return false;
+        return Ok(false);
     }
     let m = metadata(r);
     let s = gateway::saved::save(m);
@@ -212,38 +215,38 @@ fn call_save(r: &[u8]) -> bool {
     let v = s.verdict;
     let mut f = blank(v);
     f.metadata = m;
-    send(f, &bytes);
-    true
+    send(rt, f, &bytes)?;
+    Ok(true)
 }
 
-fn call_load(r: &[u8]) -> bool {
+fn call_load(rt: &impl Print, r: &[u8]) -> io::Result<bool> {
     if r.len() < 1 {
-        return false;
+        return Ok(false);
     }
     let l = gateway::saved::load(&r[1..]);
     let m = l.metadata;
     let v = l.verdict;
     let mut f = blank(v);
     f.metadata = m;
-    send(f, b"");
-    true
+    send(rt, f, b"")?;
+    Ok(true)
 }
 
-fn call_check(r: &[u8]) -> bool {
+fn call_check(rt: &impl Print, r: &[u8]) -> io::Result<bool> {
     if r.len() < 1 {
-        return false;
+        return Ok(false);
     }
     let c = store::check(&r[1..]);
     let m = c.metadata;
     let v = c.verdict;
     let mut f = blank(v);
     f.metadata = m;
-    send(f, b"");
-    true
+    send(rt, f, b"")?;
+    Ok(true)
 }
 
 // A proof in a buffer, and all of the buffer after it.
-fn prove_in(r: &[u8], buffer: &mut [u8])
+fn prove_in(rt: &impl Print, r: &[u8], buffer: &mut [u8]) -> io::Result<()>
     requires { 13 ≤ length r.now }
 {
     let p = store::prove(&r[13..], number(r, 1), buffer, number(r, 5));
@@ -251,63 +254,66 @@ fn prove_in(r: &[u8], buffer: &mut [u8])
     let mut f = blank(v);
     f.length = p.length;
     f.entries = p.entries;
-    send(f, buffer);
+    send(rt, f, buffer)
 }
 
-fn call_prove(r: &[u8]) -> bool {
+fn call_prove(rt: &impl Print, r: &[u8]) -> io::Result<bool> {
     if r.len() < 13 {
-        return false;
+        return Ok(false);
     }
     let size = number(r, 9) as usize;
     if MOST_BUFFER < size {
-        return false;
+        return Ok(false);
     }
     let mut buffer = [UNTOUCHED; MOST_BUFFER];
-    prove_in(r, &mut buffer[0..size]);
-    true
+    prove_in(rt, r, &mut buffer[0..size])?;
+    Ok(true)
 }
 
-fn call_apply(r: &mut [u8]) -> bool {
+fn call_apply(rt: &impl Print, r: &mut [u8]) -> io::Result<bool> {
     if r.len() < 39 {
-        return false;
+        return Ok(false);
     }
     if 3 < r[1] {
-        return false;
+        return Ok(false);
     }
     let k = command(r, 1);
     let a = store::apply(&mut r[39..], k);
     let v = a.verdict;
     let mut f = blank(v);
     f.count = a.count;
-    send(f, &r[39..]);
-    true
+    send(rt, f, &r[39..])?;
+    Ok(true)
 }
 
 // The gateway's answer to a command or a filing.
-fn send_answer(a: gateway::Answer) {
+fn send_answer(rt: &impl Print, a: gateway::Answer) -> io::Result<()> {
     let tag = a.tag;
     let m = a.metadata;
     let v = a.verdict;
     let mut f = blank(v);
     f.tag = tag;
     f.metadata = m;
-    send(f, b"");
+    send(rt, f, b"")
 }
 
-fn call_gateway(r: &[u8]) -> bool {
+fn call_gateway(rt: &impl Print, r: &[u8]) -> io::Result<bool> {
     if r.len() < 79 {
-        return false;
+        return Ok(false);
     }
     if 3 < r[37] {
-        return false;
+        return Ok(false);
     }
     let first = number(r, 75) as usize;
     if r.len() - 79 < first {
-        return false;
+        return Ok(false);
     }
     let end = 79 + first;
-    send_answer(gateway::check(metadata(r), command(r, 37), &r[79..end], &r[end..]));
-    true
+    send_answer(
+        rt,
+        gateway::check(metadata(r), command(r, 37), &r[79..end], &r[end..]),
+    )?;
+    Ok(true)
 }
 
 // The number of positions, in one byte.
@@ -322,10 +328,8 @@ fn how_many(r: &[u8], at: usize) -> usize
 fn take_positions(ps: &mut [u64], r: &[u8], at: usize)
     requires { at + 4 * length ps.old ≤ length r.now }
 {
-    let mut i = 0;
-    while i < ps.len() {
+    for i in 0..ps.len() {
         ps[i] = number(r, at + 4 * i);
-        i += 1;
     }
 }
 
@@ -339,7 +343,13 @@ fn positions(r: &[u8], at: usize, m: usize) -> [u64; 255]
 }
 
 // A joint proof in a buffer, and all of the buffer after it. Place, buffer length and image stand from `at` on.
-fn prove_joint_in(r: &[u8], at: usize, ps: &[u64], buffer: &mut [u8])
+fn prove_joint_in(
+    rt: &impl Print,
+    r: &[u8],
+    at: usize,
+    ps: &[u64],
+    buffer: &mut [u8],
+) -> io::Result<()>
     requires { at + 8 ≤ length r.now }
 {
     let p = jointstore::prove(&r[at + 8..], ps, buffer, number(r, at));
@@ -347,44 +357,44 @@ fn prove_joint_in(r: &[u8], at: usize, ps: &[u64], buffer: &mut [u8])
     let mut f = blank(v);
     f.length = p.length;
     f.entries = p.entries;
-    send(f, buffer);
+    send(rt, f, buffer)
 }
 
-fn call_prove_joint(r: &[u8]) -> bool {
+fn call_prove_joint(rt: &impl Print, r: &[u8]) -> io::Result<bool> {
     if r.len() < 2 {
-        return false;
+        return Ok(false);
     }
     let m = how_many(r, 1);
     let at = 2 + 4 * m;
     if r.len() < at + 8 {
-        return false;
+        return Ok(false);
     }
     let size = number(r, at + 4) as usize;
     if MOST_JOINT_BUFFER < size {
-        return false;
+        return Ok(false);
     }
     let ps = positions(r, 2, m);
     let mut buffer = [UNTOUCHED; MOST_JOINT_BUFFER];
-    prove_joint_in(r, at, &ps[0..m], &mut buffer[0..size]);
-    true
+    prove_joint_in(rt, r, at, &ps[0..m], &mut buffer[0..size])?;
+    Ok(true)
 }
 
 // The first tags, 32 bytes each.
-fn send_tags(f: Fields, tags: &[u8], number: u64) {
+fn send_tags(rt: &impl Print, f: Fields, tags: &[u8], number: u64) -> io::Result<()> {
     if ((tags.len() / 32) as u64) < number {
-        return;
+        return Ok(());
     }
-    send(f, &tags[0..32 * (number as usize)]);
+    send(rt, f, &tags[0..32 * (number as usize)])
 }
 
-fn call_gateway_joint(r: &[u8]) -> bool {
+fn call_gateway_joint(rt: &impl Print, r: &[u8]) -> io::Result<bool> {
     if r.len() < 38 {
-        return false;
+        return Ok(false);
     }
     let m = how_many(r, 37);
     let at = 38 + 4 * m;
     if r.len() < at {
-        return false;
+        return Ok(false);
     }
     let ps = positions(r, 38, m);
     let a = jointgateway::check(metadata(r), &ps[0..m], &r[at..]);
@@ -393,12 +403,12 @@ fn call_gateway_joint(r: &[u8]) -> bool {
     let v = a.verdict;
     let mut f = blank(v);
     f.metadata = held;
-    send_tags(f, &tags, a.number);
-    true
+    send_tags(rt, f, &tags, a.number)?;
+    Ok(true)
 }
 
 // A block in a frame: its time, and where its readings begin and end. `whole` is false where they run past the frame.
-#[derive(Drop)]
+#[derive(Clone, Copy)]
 struct Sent {
     whole: bool,
     time: u32,
@@ -451,23 +461,34 @@ fn filing(r: &[u8], new: u32, left: u32, right: u32) -> Filing
 }
 
 // The first proof's length and both proofs.
-fn file_with(m: Metadata, f: Filing, new: &[u8], left: &[u8], right: &[u8], proofs: &[u8]) -> bool {
+fn file_with(
+    rt: &impl Print,
+    m: Metadata,
+    f: Filing,
+    new: &[u8],
+    left: &[u8],
+    right: &[u8],
+    proofs: &[u8],
+) -> io::Result<bool> {
     if proofs.len() < 4 {
-        return false;
+        return Ok(false);
     }
     let first = number(proofs, 0) as usize;
     if proofs.len() - 4 < first {
-        return false;
+        return Ok(false);
     }
     let end = 4 + first;
-    send_answer(filer::file(m, f, new, left, right, &proofs[4..end], &proofs[end..]));
-    true
+    send_answer(
+        rt,
+        filer::file(m, f, new, left, right, &proofs[4..end], &proofs[end..]),
+    )?;
+    Ok(true)
 }
 
 // A block that is cut short leaves the next one at its own place, cut short too; so the last tells for all.
-fn call_file(r: &[u8]) -> bool {
+fn call_file(rt: &impl Print, r: &[u8]) -> io::Result<bool> {
     if r.len() < 42 {
-        return false;
+        return Ok(false);
     }
     let new = block(r, 42);
     let new_from = new.from;
@@ -479,9 +500,10 @@ fn call_file(r: &[u8]) -> bool {
     let right_from = right.from;
     let right_to = right.to;
     if !right.whole {
-        return false;
+        return Ok(false);
     }
     file_with(
+        rt,
         metadata(r),
         filing(r, new.time, left.time, right.time),
         &r[new_from..new_to],
@@ -495,108 +517,130 @@ fn call_file(r: &[u8]) -> bool {
 fn take_times(ts: &mut [u32], r: &[u8], at: usize)
     requires { at + 4 * length ts.old ≤ length r.now }
 {
-    let mut i = 0;
-    while i < ts.len() {
+    for i in 0..ts.len() {
         ts[i] = time(r, at + 4 * i);
-        i += 1;
     }
 }
 
 // The place for the new time among the times before it, which go into a buffer.
-fn place_in(r: &[u8], ts: &mut [u32])
+fn place_in(rt: &impl Print, r: &[u8], ts: &mut [u32]) -> io::Result<()>
     requires { 9 + 4 * length ts.old ≤ length r.now }
 {
     take_times(ts, r, 5);
     let new = time(r, 5 + 4 * ts.len());
     let mut f = blank(Verdict::Done);
     f.count = times::place(ts, new);
-    send(f, b"");
+    send(rt, f, b"")
 }
 
-fn call_place(r: &[u8]) -> bool {
+fn call_place(rt: &impl Print, r: &[u8]) -> io::Result<bool> {
     if r.len() < 9 {
-        return false;
+        return Ok(false);
     }
     let n = number(r, 1) as usize;
     if (r.len() - 9) / 4 < n {
-        return false;
+        return Ok(false);
     }
     if MOST_TIMES < n {
-        return false;
+        return Ok(false);
     }
     let mut ts = [0u32; MOST_TIMES];
-    place_in(r, &mut ts[0..n]);
-    true
+    place_in(rt, r, &mut ts[0..n])?;
+    Ok(true)
 }
 
 // One call; false where the frame is bad.
-fn answered(r: &mut [u8]) -> bool {
+fn answered(rt: &impl Print, r: &mut [u8]) -> io::Result<bool> {
     if r.len() < 1 {
-        return false;
+        return Ok(false);
     }
     let call = r[0];
     match call {
-        1 => call_digest(r),
-        2 => call_match(r),
-        3 => call_height(r),
-        4 => call_save(r),
-        5 => call_load(r),
-        6 => call_check(r),
-        7 => call_prove(r),
-        8 => call_apply(r),
-        9 => call_gateway(r),
-        10 => call_tag(r),
-        11 => call_prove_joint(r),
-        12 => call_gateway_joint(r),
-        13 => call_file(r),
-        14 => call_place(r),
-        _ => false,
+        1 => call_digest(rt, r),
+        2 => call_match(rt, r),
+        3 => call_height(rt, r),
+        4 => call_save(rt, r),
+        5 => call_load(rt, r),
+        6 => call_check(rt, r),
+        7 => call_prove(rt, r),
+        8 => call_apply(rt, r),
+        9 => call_gateway(rt, r),
+        10 => call_tag(rt, r),
+        11 => call_prove_joint(rt, r),
+        12 => call_gateway_joint(rt, r),
+        13 => call_file(rt, r),
+        14 => call_place(rt, r),
+        _ => Ok(false),
     }
 }
 
-fn bad_frame() -> bool {
-    io::write_all(1, b"bad frame\n");
-    false
+fn bad_frame(rt: &impl Print) -> io::Result<bool> {
+    rt.write_all(b"bad frame\n")?;
+    Ok(false)
+}
+
+// Fills the buffer, or stops where the input ends: how many bytes it read.
+fn fill<R: Read>(reader: &mut R, buf: &mut [u8]) -> io::Result<usize>
+    ensures { IfOk result (λ n. n ≤ length buf.new) }
+{
+    let mut at = 0usize;
+    for _ in 0..u64::MAX {
+        if at >= buf.len() {
+            return Ok(buf.len());
+        }
+        match reader.read(&mut buf[at..]) {
+            Ok(0) => return Ok(at),
+            Ok(n) => at += n,
+            Err(e) => {
+                if e.kind() != ErrorKind::Interrupted {
+                    return Err(e);
+                }
+            }
+        }
+    }
+    Err(io::Error::from(ErrorKind::Interrupted))
 }
 
 // Reads one frame and answers it; false where the run is over.
-fn turn(space: &mut [u8]) -> bool
+fn turn<R: Read>(rt: &impl Print, reader: &mut R, space: &mut [u8]) -> io::Result<bool>
     requires { length space.old ≡ 200000 }
 {
     let mut size = [0u8; 4];
-    let got = io::read_full(0, &mut size);
+    let got = fill(reader, &mut size)?;
     if got == 0 {
-        return false;
+        return Ok(false);
     }
     if got < 4 {
-        return bad_frame();
+        return bad_frame(rt);
     }
     let n = octets::four_at(&size, 0) as usize;
     if MOST_FRAME < n {
-        return bad_frame();
+        return bad_frame(rt);
     }
-    let here = io::read_full(0, &mut space[0..n]);
+    let here = fill(reader, &mut space[0..n])?;
     if here < n {
-        return bad_frame();
+        return bad_frame(rt);
     }
-    if answered(&mut space[0..n]) {
-        return true;
+    if answered(rt, &mut space[0..n])? {
+        return Ok(true);
     }
-    bad_frame()
+    bad_frame(rt)
 }
 
-// A proved loop has to end, and nothing says that the input does: so the loop counts its turns down, from a number that no run
+// A proved loop has to end, and nothing says that the input does: so the loop counts its turns, to a number that no run
 // uses up.
-fn turns(space: &mut [u8])
+fn turns<R: Read>(rt: &impl Print, reader: &mut R, space: &mut [u8]) -> io::Result<()>
     requires { length space.old ≡ 200000 }
 {
-    let mut left = u64::MAX;
-    while 0 < left && turn(space) {
-        left -= 1;
+    for _ in 0..u64::MAX {
+        if !turn(rt, reader, space)? {
+            break;
+        }
     }
+    Ok(())
 }
 
-fn main() {
+fn main(rt: HostRuntime) -> io::Result<()> {
     let mut space = [0u8; MOST_FRAME];
-    turns(&mut space);
+    turns(&rt, &mut rt.reader(), &mut space)
 }

@@ -1,6 +1,8 @@
 // The archive image: a row of blocks in a lent buffer, checked, read and edited in place. What is read, and the whole
 // buffer after an edit, are equations over lists (specs/). No function here is an entry point: the store refuses first,
 // so an edit may ask for what it needs.
+#![tactic(auto)]
+
 ghost use Rattle.std.specs.Prelude.{◌≡◌, true, ◌++◌, ◌+◌, ◌*◌, ◌≤◌, ◌<◌, length};
 ghost use Rattle.octets.specs.Numbers.{be};
 ghost use Rattle.octets.specs.Runs.{patch};
@@ -27,7 +29,7 @@ const MOST_BLOCKS: usize = 4096;
 pub const MOST_HEIGHT: u64 = 15;
 
 // Where the records stand: the first one's place, the bytes of each, and how many there are.
-#[derive(Drop)]
+#[derive(Clone, Copy)]
 pub struct Layout {
     pub first: usize,
     pub size: usize,

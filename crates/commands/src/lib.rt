@@ -1,5 +1,7 @@
 // The words that store and gateway share: metadata, commands, and the refusals that need no image and no proof, or no more of them
 // than a tag.
+#![tactic(auto)]
+
 ghost use Rattle.std.specs.Prelude.{◌≡◌};
 ghost use Rattle.skiplist.specs.Commands.{repeats_at};
 ghost use Rattle.commands.specs.Admission.{least_of, inserts_of, insertable_of, admitted_of};
@@ -7,13 +9,13 @@ ghost use Rattle.commands.specs.Admission.{least_of, inserts_of, insertable_of, 
 use refusals::{Refusal, Verdict};
 
 // Count and root label.
-#[derive(Drop)]
+#[derive(Clone, Copy)]
 pub struct Metadata {
     pub count: u64,
     pub label: [u8; 32],
 }
 
-#[derive(Drop)]
+#[derive(Clone, Copy)]
 pub enum Operation {
     Read,
     Replace,
@@ -22,7 +24,7 @@ pub enum Operation {
 }
 
 // An operation at a position. The height is Insert's, the tag Replace's and Insert's; with the others they are not looked at.
-#[derive(Drop)]
+#[derive(Clone, Copy)]
 pub struct Command {
     pub operation: Operation,
     pub position: u64,
@@ -58,6 +60,7 @@ fn inserts(o: Operation) -> bool
 }
 
 // Refusals 3 and 4 of Insert, for n blocks.
+#[tactic(auto, unfolding(crate::specs::Admission::insertable_of))]
 fn insertable(height: u8, n: u64) -> Verdict
     ensures { result ≡ insertable_of height n }
 {
@@ -71,6 +74,7 @@ fn insertable(height: u8, n: u64) -> Verdict
 }
 
 // Refusals 2, 3 and 4 of a command, for n blocks.
+#[tactic(auto, unfolding(crate::specs::Admission::admitted_of, crate::specs::Admission::insertable_of))]
 pub fn admitted(k: Command, n: u64) -> Verdict
     ensures { result ≡ admitted_of k n }
 {

@@ -39,7 +39,8 @@ placed v rs ns e n = record {
 pub refuses : {Back : Type 0} (v : Verdict) (rs : List Rule) (ns : List ℕ) → v ≡ verdict_of rs
     → numbers rs ≡ ns → ((r : Refusal) → verdict_of rs ≡ Refused r → Back) → Refuses v ns Back
 refuses v rs ns e n back = record {
-  number = subst (λ ms. Among (verdict_number v) (0 ∷ ms)) n (rw e (verdict-among rs));
+  number = subst (λ ms. Among (verdict_number v) (0 ∷ ms)) n
+      (subst (λ x. Among (verdict_number x) (0 ∷ numbers rs)) (sym e) (verdict-among rs));
   back = λ r f. back r (sym e ∙ f);
 }
 

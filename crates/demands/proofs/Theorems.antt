@@ -4,6 +4,7 @@
 pub use Rattle.demands.proofs.FirstDemand.{first_demand}
 -- Demand 2: one run of all the calls, and every refusal where document 01 puts it.
 pub use Rattle.demands.proofs.SecondDemand.{second_demand}
+pub use Rattle.demands.proofs.Placed.{all_placed}
 -- Demand 3: what the gateway accepts is right, or two messages clash; 10 comes only with a clash.
 pub use Rattle.demands.proofs.ThirdDemand.{third_demand}
 -- Demands 2 and 3 over the tags of ask 1: a block that matches what the gateway reports is the one that stands there.

@@ -9,6 +9,7 @@ use crate::words::{
 use commands::{Metadata, Operation};
 use filer::Filing;
 use gateway::Answer;
+use std::io;
 
 // Blocks that the store has room for, bytes of a block's readings, and of all of them.
 const ROOM: usize = 16;
@@ -22,7 +23,7 @@ const LATEST: u32 = MIDNIGHT + 7 * HOUR + 900;
 
 // What the two sides keep of a tank's archive: the gateway what it holds; the store the image and, in the same order, every block's time
 // and readings.
-#[derive(Drop)]
+#[derive(Clone, Copy)]
 struct Tank {
     held: Metadata,
     image: [u8; 512],
@@ -30,17 +31,17 @@ struct Tank {
     kept: [u8; KEPT],
 }
 
-fn say_two_digits(n: u64) {
-    io::print_decimal(1, n / 10 % 10);
-    io::print_decimal(1, n % 10);
+fn say_two_digits(rt: &impl Print, n: u64) -> io::Result<()> {
+    rt.print(n / 10 % 10)?;
+    rt.print(n % 10)
 }
 
 // A time as the clock at the tank shows it.
-fn say_clock(time: u32) {
+fn say_clock(rt: &impl Print, time: u32) -> io::Result<()> {
     let s = std::num::wrapping_sub_u32(time, MIDNIGHT) as u64;
-    say_two_digits(s / 3_600 % 24);
-    say(b":");
-    say_two_digits(s / 60 % 60);
+    say_two_digits(rt, s / 3_600 % 24)?;
+    say(rt, b":")?;
+    say_two_digits(rt, s / 60 % 60)
 }
 
 // The sample time at an hour and a minute.
@@ -152,12 +153,10 @@ fn decided_honestly(t: Tank, f: Filing, readings: &[u8]) -> Answer {
 // A time put in so that p times stand before it; later ones move on by one.
 fn put_time(when: &mut [u32], p: usize, time: u32) {
     let mut moved = time;
-    let mut i = p;
-    while i < when.len() {
+    for i in p..when.len() {
         let next = when[i];
         when[i] = moved;
         moved = next;
-        i += 1;
     }
 }
 
@@ -224,47 +223,47 @@ fn found(t: Tank, time: u32, coin: u16) -> Filing {
 }
 
 // The place, and what stands beside it among n blocks.
-fn say_place(f: Filing, n: u64) {
-    say(b"after position ");
-    io::print_decimal(1, f.position);
+fn say_place(rt: &impl Print, f: Filing, n: u64) -> io::Result<()> {
+    say(rt, b"after position ")?;
+    rt.print(f.position)?;
     if f.position < 1 {
-        return;
+        return Ok(());
     }
     if f.position < n {
-        say(b", between ");
-        say_clock(f.left);
-        say(b" and ");
-        say_clock(f.right);
-        return;
+        say(rt, b", between ")?;
+        say_clock(rt, f.left)?;
+        say(rt, b" and ")?;
+        say_clock(rt, f.right)?;
+        return Ok(());
     }
-    say(b", after ");
-    say_clock(f.left);
+    say(rt, b", after ")?;
+    say_clock(rt, f.left)
 }
 
 // A block that comes in. The gateway hands on its time; the store answers with a place, two blocks and two proofs; the filer decides; the
 // store applies.
-fn comes(t: Tank, time: u32, coin: u16, readings: &[u8]) -> Tank {
+fn comes(rt: &impl Print, t: Tank, time: u32, coin: u16, readings: &[u8]) -> io::Result<Tank> {
     let m = t.held;
     let f = found(t, time, coin);
     let a = decided_honestly(t, f, readings);
     let v = a.verdict;
-    say(b"  ");
-    say_clock(time);
+    say(rt, b"  ")?;
+    say_clock(rt, time)?;
     if !refusals::is_done(v) {
-        say(b" not filed ");
-        say_place(f, m.count);
-        say(b":\n");
-        say_verdict(v);
-        say(b"\n");
-        return t;
+        say(rt, b" not filed ")?;
+        say_place(rt, f, m.count)?;
+        say(rt, b":\n")?;
+        say_verdict(rt, v)?;
+        say(rt, b"\n")?;
+        return Ok(t);
     }
     let next = a.metadata;
-    say(b" filed ");
-    say_place(f, m.count);
-    say(b": ");
-    say_metadata(next);
-    say(b"\n");
-    applied(t, f, readings, next)
+    say(rt, b" filed ")?;
+    say_place(rt, f, m.count)?;
+    say(rt, b": ")?;
+    say_metadata(rt, next)?;
+    say(rt, b"\n")?;
+    Ok(applied(t, f, readings, next))
 }
 
 fn new_tank() -> Tank {
@@ -279,76 +278,95 @@ fn new_tank() -> Tank {
 }
 
 // Before the outage.
-fn on_time(before: Tank) -> Tank {
+fn on_time(rt: &impl Print, before: Tank) -> io::Result<Tank> {
     say(
+        rt,
         b"\nAn outage at a second tank. Every block is filed by its time: the store finds the place, the gateway decides, no operator chooses.\n",
-    );
-    let t = comes(before, clock(5, 30), 6, b"level 3.07 m");
-    comes(t, clock(6, 0), 5, b"level 3.11 m")
+    )?;
+    let t = comes(rt, before, clock(5, 30), 6, b"level 3.07 m")?;
+    comes(rt, t, clock(6, 0), 5, b"level 3.11 m")
 }
 
 // The outage's blocks in the order in which they come: the first four,
-fn first_half(before: Tank) -> Tank {
+fn first_half(rt: &impl Print, before: Tank) -> io::Result<Tank> {
     say(
+        rt,
         b"\nThe modem falls silent. At 10:00 it tells four hours at once, and the radio has shuffled them:\n",
-    );
-    let mut t = comes(before, clock(8, 30), 3, b"level 3.40 m");
-    t = comes(t, clock(6, 30), 8, b"level 3.14 m");
-    t = comes(t, clock(10, 0), 9, b"level 3.52 m");
-    comes(t, clock(7, 30), 2, b"level 3.26 m")
+    )?;
+    let mut t = comes(rt, before, clock(8, 30), 3, b"level 3.40 m")?;
+    t = comes(rt, t, clock(6, 30), 8, b"level 3.14 m")?;
+    t = comes(rt, t, clock(10, 0), 9, b"level 3.52 m")?;
+    comes(rt, t, clock(7, 30), 2, b"level 3.26 m")
 }
 
 // and the others.
-fn second_half(before: Tank) -> Tank {
-    let mut t = comes(before, clock(9, 30), 7, b"level 3.49 m");
-    t = comes(t, clock(7, 0), 1, b"level 3.19 m");
-    t = comes(t, clock(9, 0), 4, b"level 3.45 m");
-    comes(t, clock(8, 0), 11, b"level 3.33 m")
+fn second_half(rt: &impl Print, before: Tank) -> io::Result<Tank> {
+    let mut t = comes(rt, before, clock(9, 30), 7, b"level 3.49 m")?;
+    t = comes(rt, t, clock(7, 0), 1, b"level 3.19 m")?;
+    t = comes(rt, t, clock(9, 0), 4, b"level 3.45 m")?;
+    comes(rt, t, clock(8, 0), 11, b"level 3.33 m")
 }
 
 // The gateway reads a position, and the store shows the block that it has there.
-fn reads(m: Metadata, image: &[u8], when: &[u32], kept: &[u8], p: u64) {
+fn reads(
+    rt: &impl Print,
+    m: Metadata,
+    image: &[u8],
+    when: &[u32],
+    kept: &[u8],
+    p: u64,
+) -> io::Result<()> {
     let a = asked(m, read(p), image, p);
     let tag = a.tag;
     let time = time_at(when, p);
     let x = labels::matches(tag, time, block_at(kept, p));
-    say(b" ");
-    say_clock(time);
+    say(rt, b" ")?;
+    say_clock(rt, time)?;
     if !x.yes {
-        say(b" (NO MATCH)");
+        say(rt, b" (NO MATCH)")?;
     }
+    Ok(())
 }
 
-fn reads_all(m: Metadata, image: &[u8], when: &[u32], kept: &[u8]) {
-    let mut p = 0;
-    while p < m.count {
-        p += 1;
-        reads(m, image, when, kept, p);
+fn reads_all(
+    rt: &impl Print,
+    m: Metadata,
+    image: &[u8],
+    when: &[u32],
+    kept: &[u8],
+) -> io::Result<()> {
+    for p in 0..m.count {
+        reads(rt, m, image, when, kept, p + 1)?;
     }
+    Ok(())
 }
 
 // The archive in its order, every block matched against the tag that the gateway was proved.
-fn in_order(t: Tank) {
+fn in_order(rt: &impl Print, t: Tank) -> io::Result<()> {
     let m = t.held;
     let image = t.image;
     let when = t.when;
     let kept = t.kept;
     say(
+        rt,
         b"  the gateway reads every position, and matches the block that the store shows there:\n   ",
-    );
-    reads_all(m, &image, &when, &kept);
-    say(b"\n  the store's image, checked afresh: ");
-    say_agrees(held(&image), m, b"the gateway predicted");
+    )?;
+    reads_all(rt, m, &image, &when, &kept)?;
+    say(rt, b"\n  the store's image, checked afresh: ")?;
+    say_agrees(rt, held(&image), m, b"the gateway predicted")
 }
 
 // One of the blocks comes a second time; its time leads to the place right after its first copy.
-fn sent_again(before: Tank) {
-    say(b"\nAn acknowledgement was lost, and the block of 08:00 is sent again:\n");
-    let t = comes(before, clock(8, 0), 6, b"level 3.33 m");
+fn sent_again(rt: &impl Print, before: Tank) -> io::Result<()> {
+    say(
+        rt,
+        b"\nAn acknowledgement was lost, and the block of 08:00 is sent again:\n",
+    )?;
+    let t = comes(rt, before, clock(8, 0), 6, b"level 3.33 m")?;
     let m = before.held;
     let next = t.held;
-    say(b"  the gateway holds: ");
-    say_agrees(next, m, b"before");
+    say(rt, b"  the gateway holds: ")?;
+    say_agrees(rt, next, m, b"before")
 }
 
 // The end of the list, proposed for the block that comes last.
@@ -366,16 +384,17 @@ fn the_end_at_seven(t: Tank) -> Filing {
     f
 }
 
-fn proposes_the_end(t: Tank) {
+fn proposes_the_end(rt: &impl Print, t: Tank) -> io::Result<()> {
     let a = decided_honestly(t, the_end(t), b"level 3.22 m");
     lie(
+        rt,
         b"  It proposes the end of the list, under the time of arrival:\n",
         a,
         b"the last block is from 10:00.",
-    );
+    )
 }
 
-fn shows_another_block(t: Tank) {
+fn shows_another_block(rt: &impl Print, t: Tank) -> io::Result<()> {
     let m = t.held;
     let image = t.image;
     let kept = t.kept;
@@ -388,37 +407,42 @@ fn shows_another_block(t: Tank) {
         &image,
     );
     lie(
+        rt,
         b"  It proposes the end, and shows the block of 07:00 for the last one:\n",
         a,
         b"that is not the block whose tag was proved.",
-    );
+    )
 }
 
-fn shows_another_time(t: Tank) {
+fn shows_another_time(rt: &impl Print, t: Tank) -> io::Result<()> {
     let a = decided_honestly(t, the_end_at_seven(t), b"level 3.22 m");
     lie(
+        rt,
         b"  It proposes the end, and says that the last block is from 07:00:\n",
         a,
         b"the time is under the tag too.",
-    );
+    )
 }
 
 // The last of the outage's blocks, and stores that lie about its place.
-fn last(t: Tank) -> Tank {
-    say(b"\nOne block of the outage is left, from 07:15. A store that misfiles it:\n");
-    proposes_the_end(t);
-    shows_another_block(t);
-    shows_another_time(t);
-    say(b"An honest store finds the place:\n");
-    comes(t, LATEST, 10, b"level 3.22 m")
+fn last(rt: &impl Print, t: Tank) -> io::Result<Tank> {
+    say(
+        rt,
+        b"\nOne block of the outage is left, from 07:15. A store that misfiles it:\n",
+    )?;
+    proposes_the_end(rt, t)?;
+    shows_another_block(rt, t)?;
+    shows_another_time(rt, t)?;
+    say(rt, b"An honest store finds the place:\n")?;
+    comes(rt, t, LATEST, 10, b"level 3.22 m")
 }
 
-pub fn told() {
-    let mut t = on_time(new_tank());
-    t = first_half(t);
-    t = second_half(t);
-    in_order(t);
-    sent_again(t);
-    t = last(t);
-    in_order(t);
+pub fn told(rt: &impl Print) -> io::Result<()> {
+    let mut t = on_time(rt, new_tank())?;
+    t = first_half(rt, t)?;
+    t = second_half(rt, t)?;
+    in_order(rt, t)?;
+    sent_again(rt, t)?;
+    t = last(rt, t)?;
+    in_order(rt, t)
 }

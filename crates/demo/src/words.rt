@@ -3,6 +3,7 @@
 use commands::{Command, Metadata, Operation};
 use gateway::Answer;
 use refusals::{Refusal, Verdict};
+use std::io;
 
 const IMAGE: usize = 512;
 
@@ -13,53 +14,54 @@ pub const MIDNIGHT: u32 = 1_794_700_800;
 
 pub const HOUR: u32 = 3_600;
 
-pub fn say(text: &[u8]) {
-    io::write_all(1, text);
+pub fn say(rt: &impl Print, text: &[u8]) -> io::Result<()> {
+    rt.write_all(text)
 }
 
 // The first four bytes, enough to tell the labels of this story apart.
-fn say_label(label: [u8; 32]) {
-    io::print_hex(1, octets::four_at(&label, 0), 8);
-    say(b"..");
+fn say_label(rt: &impl Print, label: [u8; 32]) -> io::Result<()> {
+    let first = octets::four_at(&label, 0);
+    print!(rt; "{first:08x}")?;
+    say(rt, b"..")
 }
 
-pub fn say_metadata(m: Metadata) {
-    say(b"count ");
-    io::print_decimal(1, m.count);
-    say(b", label ");
+pub fn say_metadata(rt: &impl Print, m: Metadata) -> io::Result<()> {
+    say(rt, b"count ")?;
+    rt.print(m.count)?;
+    say(rt, b", label ")?;
     let label = m.label;
-    say_label(label);
+    say_label(rt, label)
 }
 
-fn name(r: Refusal) {
+fn name(rt: &impl Print, r: Refusal) -> io::Result<()> {
     match r {
-        Refusal::BadImage => say(b"BAD IMAGE"),
-        Refusal::BadPosition => say(b"BAD POSITION"),
-        Refusal::BadHeight => say(b"BAD HEIGHT"),
-        Refusal::Full => say(b"FULL"),
-        Refusal::NoRoom => say(b"NO ROOM"),
-        Refusal::TooDeep => say(b"TOO DEEP"),
-        Refusal::BadProof(_) => say(b"BAD PROOF"),
-        Refusal::WrongPosition(_) => say(b"WRONG POSITION"),
-        Refusal::WrongLabel(_) => say(b"WRONG LABEL"),
-        Refusal::NotNeighbours => say(b"NOT NEIGHBOURS"),
-        Refusal::LongMessage => say(b"LONG MESSAGE"),
-        Refusal::BadMetadata => say(b"BAD METADATA"),
-        Refusal::BadSet => say(b"BAD SET"),
-        Refusal::Repeated => say(b"REPEATED"),
-        Refusal::OutOfTime => say(b"OUT OF TIME"),
-        Refusal::WrongBlock => say(b"WRONG BLOCK"),
+        Refusal::BadImage => say(rt, b"BAD IMAGE"),
+        Refusal::BadPosition => say(rt, b"BAD POSITION"),
+        Refusal::BadHeight => say(rt, b"BAD HEIGHT"),
+        Refusal::Full => say(rt, b"FULL"),
+        Refusal::NoRoom => say(rt, b"NO ROOM"),
+        Refusal::TooDeep => say(rt, b"TOO DEEP"),
+        Refusal::BadProof(_) => say(rt, b"BAD PROOF"),
+        Refusal::WrongPosition(_) => say(rt, b"WRONG POSITION"),
+        Refusal::WrongLabel(_) => say(rt, b"WRONG LABEL"),
+        Refusal::NotNeighbours => say(rt, b"NOT NEIGHBOURS"),
+        Refusal::LongMessage => say(rt, b"LONG MESSAGE"),
+        Refusal::BadMetadata => say(rt, b"BAD METADATA"),
+        Refusal::BadSet => say(rt, b"BAD SET"),
+        Refusal::Repeated => say(rt, b"REPEATED"),
+        Refusal::OutOfTime => say(rt, b"OUT OF TIME"),
+        Refusal::WrongBlock => say(rt, b"WRONG BLOCK"),
     }
 }
 
-pub fn say_verdict(v: Verdict) {
+pub fn say_verdict(rt: &impl Print, v: Verdict) -> io::Result<()> {
     match v {
-        Verdict::Done => say(b"    accepted"),
+        Verdict::Done => say(rt, b"    accepted"),
         Verdict::Refused(r) => {
-            say(b"    refused ");
-            io::print_decimal(1, refusals::number(r) as u64);
-            say(b" ");
-            name(r);
+            say(rt, b"    refused ")?;
+            rt.print(refusals::number(r) as u64)?;
+            say(rt, b" ")?;
+            name(rt, r)
         }
     }
 }
@@ -129,23 +131,28 @@ fn agrees(a: Metadata, b: Metadata) -> bool {
 }
 
 // What is held or found, and whether it is what it is said to be.
-pub fn say_agrees(seen: Metadata, wanted: Metadata, what: &[u8]) {
-    say_metadata(seen);
+pub fn say_agrees(
+    rt: &impl Print,
+    seen: Metadata,
+    wanted: Metadata,
+    what: &[u8],
+) -> io::Result<()> {
+    say_metadata(rt, seen)?;
     if agrees(wanted, seen) {
-        say(b", as ");
+        say(rt, b", as ")?;
     } else {
-        say(b", NOT as ");
+        say(rt, b", NOT as ")?;
     }
-    say(what);
-    say(b"\n");
+    say(rt, what)?;
+    say(rt, b"\n")
 }
 
 // One lie: what the store does, and what the gateway says.
-pub fn lie(what: &[u8], a: Answer, why: &[u8]) {
+pub fn lie(rt: &impl Print, what: &[u8], a: Answer, why: &[u8]) -> io::Result<()> {
     let v = a.verdict;
-    say(what);
-    say_verdict(v);
-    say(b": ");
-    say(why);
-    say(b"\n");
+    say(rt, what)?;
+    say_verdict(rt, v)?;
+    say(rt, b": ")?;
+    say(rt, why)?;
+    say(rt, b"\n")
 }

@@ -1,5 +1,7 @@
 //! The late filer: a block filed by its time. The store proposes a place p and shows the blocks at p and p + 1 with their proofs; the
 //! filer inserts after p only where they stand in the archive and the new time belongs between theirs.
+#![tactic(auto)]
+
 ghost use Rattle.std.specs.Prelude.{◌≡◌, false, not, ◌&&◌, ◌≤◌, ltb};
 ghost use Rattle.refusals.specs.Order.{verdict_of};
 ghost use Rattle.skiplist.specs.Limits.{most_blocks};
@@ -15,7 +17,7 @@ use labels::MOST_READINGS;
 use refusals::{Refusal, Verdict, Which};
 
 // The place that the store proposes, the new block's height and time, and the times of the blocks at the place and after it.
-#[derive(Drop)]
+#[derive(Clone, Copy)]
 pub struct Filing {
     pub position: u64,
     pub height: u8,

@@ -20,7 +20,6 @@ use Rattle.refusals.specs.Order.{◌when◌, verdict_of}
 use Rattle.refusals.proofs.OrderLaws.{done-refused, cases, due_false, due_true, append-done, Lacks, lacks_never, behind}
 use Rattle.sha256.specs.Hash.{sha256}
 use Rattle.sha256.proofs.Hashes.{sha256-length}
-use Rattle.skiplist.specs.Tree.{rank}
 use Rattle.skiplist.specs.Entry.{Place}
 use Rattle.skiplist.specs.Label.{Side}
 use Rattle.skiplist.specs.Equal.{side-discrete}
@@ -29,7 +28,7 @@ use Rattle.skiplist.specs.Messages.{tree_messages, proof_messages}
 use Rattle.skiplist.specs.Clash.{Clash}
 use Rattle.skiplist.specs.Check.{Accepted}
 use Rattle.skiplist.specs.Limits.{most_height}
-use Rattle.skiplist.specs.Blocks.{Block, Sent, WithinLimits, row, root, metadata_of, tag_at}
+use Rattle.skiplist.specs.Blocks.{Block, Sent, WithinLimits, root, metadata_of, tag_at}
 use Rattle.skiplist.specs.Commands as model
 use Rattle.skiplist.specs.Commands.{InRange, edited, spot, first_at, reported, predicted, check_messages}
 use Rattle.skiplist.proofs.WayLaws.{metadata_count}

@@ -22,13 +22,12 @@ use Rattle.skiplist.specs.Tree.{Tree, empty, leaf, node, rank}
 use Rattle.skiplist.specs.Sides.{trees, side_of}
 use Rattle.skiplist.specs.Entry.{Entry, down, right, pass, Place}
 use Rattle.skiplist.specs.Recompute.{plug}
-use Rattle.skiplist.specs.Label.{Side, sides, labelled}
+use Rattle.skiplist.specs.Label.{Side, labelled}
 use Rattle.skiplist.specs.Equal.{side-discrete}
 use Rattle.skiplist.specs.Meeting.{meets, remains, deleted}
 use Rattle.skiplist.specs.Check.{Accepted}
 use Rattle.skiplist.specs.Limits.{most_height}
 use Rattle.skiplist.specs.Blocks.{Block, Kept, Sent, WithinLimits, head, row, way_to, metadata_of, shown, tag_at}
-use Rattle.skiplist.specs.Commands as model
 use Rattle.skiplist.specs.Commands.{InRange, edited, spot, repeats_at, first_at, reported, predicted}
 use Rattle.skiplist.proofs.RankLaws.{side-weight}
 use Rattle.skiplist.proofs.GoodTree.{NonEmpty, Good, tree-good, good-rank}

@@ -1,8 +1,8 @@
 // Recomputing, from the stop upwards. Entries are read from the lent bytes each time, so no path is kept; one fold
 // serves the whole path, a part of it, and the entries of one kind.
-ghost use Rattle.std.specs.Prelude.{◌≡◌, cond, ◌+◌, ◌-◌, ◌≤◌, ◌<◌, eqb, length};
+ghost use Rattle.std.specs.Prelude.{◌≡◌, false, cond, ◌+◌, ◌-◌, ◌≤◌, ◌<◌, eqb, length};
 ghost use Rattle.skiplist.specs.Recompute.{push as pushed};
-ghost use Rattle.labels.specs.CodeSides.{coded};
+ghost use Rattle.labels.specs.CodeSides.{coded, node_of};
 ghost use Rattle.proofbytes.specs.Layout.{entry_size, stop_size, down_kind};
 ghost use Rattle.proofbytes.specs.Reading.{at, entry_of, entry_at, entries_from};
 ghost use Rattle.gateway.specs.Climbing.{coding, climbed, taken, push_if, stop_side_of, stop_leaf, lesser_of};
@@ -26,25 +26,27 @@ pub fn stop_side(b: Beside) -> Side
     }
 }
 
-// An entry over the side t below it.
-fn push_entry(e: Fields, t: Side) -> Side
-    ensures { result ≡ pushed coded (coding (entry_of e)) t }
+// An entry that goes down, over t as the lower side. This and the next are apart so that their sides take the same stack.
+fn push_down(e: Fields, t: Side) -> Side
+    ensures { result ≡ node_of e.level t (record { rank = e.number; label = e.bytes; empty = false }) }
 {
     let bytes = e.bytes;
-    if e.kind == DOWN {
-        return labels::node(
-            e.level,
-            t,
-            Side {
-                rank: e.number,
-                label: bytes,
-                empty: false,
-            },
-        );
-    }
-    if e.level == 0 {
-        return labels::leaf(e.number, bytes, t);
-    }
+    labels::node(
+        e.level,
+        t,
+        Side {
+            rank: e.number,
+            label: bytes,
+            empty: false,
+        },
+    )
+}
+
+// An entry that goes right at a level over 0, over t as the right side.
+fn push_right(e: Fields, t: Side) -> Side
+    ensures { result ≡ node_of e.level (record { rank = e.number; label = e.bytes; empty = false }) t }
+{
+    let bytes = e.bytes;
     labels::node(
         e.level,
         Side {
@@ -54,6 +56,20 @@ fn push_entry(e: Fields, t: Side) -> Side
         },
         t,
     )
+}
+
+// An entry over the side t below it.
+fn push_entry(e: Fields, t: Side) -> Side
+    ensures { result ≡ pushed coded (coding (entry_of e)) t }
+{
+    let bytes = e.bytes;
+    if e.kind == DOWN {
+        return push_down(e, t);
+    }
+    if e.level == 0 {
+        return labels::leaf(e.number, bytes, t);
+    }
+    push_right(e, t)
 }
 
 fn takes(kind: u8, downs: bool, rights: bool) -> bool
@@ -90,6 +106,7 @@ pub fn fold(s: &[u8], from: usize, to: usize, downs: bool, rights: bool, t: Side
 }
 
 // The leaf of the stop after k entries.
+#[inline(never)]
 pub fn stop_leaf(s: &[u8], k: usize) -> Side
     requires { at k + stop_size ≤ length s.now }
     ensures { result ≡ stop_leaf s.now k }

@@ -13,7 +13,7 @@ use labels::Side;
 use proofbytes::read::Formed;
 
 // Nothing against the proof, or 7, 8, 9 of it.
-#[derive(Drop)]
+#[derive(Clone, Copy)]
 pub enum Finding {
     Fine,
     Misread,
@@ -21,7 +21,7 @@ pub enum Finding {
     Mislabelled,
 }
 
-#[derive(Drop)]
+#[derive(Clone, Copy)]
 pub struct Examined {
     pub finding: Finding,
     pub below: Side,

@@ -1,4 +1,6 @@
 //! The gateway: metadata saved and loaded, and the check of a command with its proofs.
+#![tactic(auto)]
+
 ghost use Rattle.std.specs.Prelude.{◌≡◌, true, [], ◌+◌, ◌≤◌};
 ghost use Rattle.refusals.specs.declared.Verdict.TheVariants.{Done};
 ghost use Rattle.refusals.specs.Order.{verdict_of};
@@ -31,7 +33,7 @@ pub mod saved;
 const MOST_BLOCKS: u64 = 4096;
 
 // What the gateway answers: the tag at the command's position before the edit, and the new metadata.
-#[derive(Drop)]
+#[derive(Clone, Copy)]
 pub struct Answer {
     pub verdict: Verdict,
     pub tag: [u8; 32],
@@ -72,6 +74,7 @@ pub fn blame(f: Finding, w: Which) -> Verdict
 }
 
 // The tag at the stop: zeros where own is 0.
+#[inline(never)]
 pub fn shown(s: &[u8]) -> [u8; 32]
     requires { Sized s.now }
     ensures { result ≡ shown_is (place_of s.now).item }
@@ -94,6 +97,7 @@ fn metadata_of(x: Side) -> Metadata
 }
 
 // The checks of one proof, for position p.
+#[inline(never)]
 pub fn proof_verdict(w: Which, m: Metadata, p: u64, s: &[u8]) -> Verdict
     requires { m.count ≤ most_blocks }
     ensures { result ≡ blamed w (finding_of s.now p m) }
@@ -104,6 +108,7 @@ pub fn proof_verdict(w: Which, m: Metadata, p: u64, s: &[u8]) -> Verdict
 }
 
 // "Read p: reports the tag, metadata stays."
+#[inline(never)]
 fn read(m: Metadata, p: u64, s: &[u8]) -> Answer
     requires { m.count ≤ most_blocks }
     ensures { result ≡ one_of m p s.now [] m }
@@ -116,6 +121,7 @@ fn read(m: Metadata, p: u64, s: &[u8]) -> Answer
 }
 
 // "Replace p by a tag": the new tag in the stop.
+#[inline(never)]
 fn replace(m: Metadata, p: u64, tag: [u8; 32], s: &[u8]) -> Answer
     requires { m.count ≤ most_blocks }
     ensures { result ≡ one_of m p s.now [] (replaced_of tag s.now) }
@@ -140,6 +146,7 @@ pub fn inserted(height: u8, tag: [u8; 32], s: &[u8]) -> Answer
 }
 
 // "Insert after p a tag with a height": not the tag at p.
+#[inline(never)]
 fn insert(m: Metadata, p: u64, height: u8, tag: [u8; 32], s: &[u8]) -> Answer
     requires { m.count ≤ most_blocks }
     ensures { result ≡ one_of m p s.now (later_rules Insert m p tag s.now [])
@@ -192,6 +199,7 @@ fn after_first(m: Metadata, p: u64, a: &[u8], u: Side, b: &[u8], j: usize) -> An
 
 // "Delete p: two proofs, first for p - 1, second for p." The parting is found by bytes first, so that what is
 // recomputed below it can be kept.
+#[inline(never)]
 fn delete(m: Metadata, p: u64, a: &[u8], b: &[u8]) -> Answer
     requires { (m.count ≤ most_blocks) × (1 ≤ p) }
     ensures { result ≡ deleted_of m p a.now b.now }

@@ -177,6 +177,7 @@ fn only_below(a: &[u8], k: usize, b: &[u8], l: usize, j: usize) -> bool
 }
 
 // The two proofs meet.
+#[inline(never)]
 pub fn meet(a: &[u8], k: usize, b: &[u8], l: usize, j: usize, u: Side, v: Side) -> bool
     requires { (at k + stop_size ≤ length a.now) × (at l + stop_size ≤ length b.now) × (j ≤ k) }
     ensures { result ≡ parts_of a.now k b.now l j u v
@@ -228,6 +229,7 @@ fn merge(a: &[u8], f: usize, k: usize, b: &[u8], g: usize, l: usize, t: Side) ->
 
 // What is left without the second's column: the shared entries over the merged ones over the first's stop leaf with
 // the right side of the second's stop.
+#[inline(never)]
 pub fn remain(a: &[u8], k: usize, b: &[u8], l: usize, j: usize) -> Side
     requires { (at k + stop_size ≤ length a.now) × (at l + stop_size ≤ length b.now) × (j ≤ k)
         × Falls most_height (entries_from a.now 0 k) × Falls most_height (entries_from b.now 0 l) }

@@ -13,6 +13,7 @@ use labels::Side;
 use proofbytes::DOWN;
 
 // The root with another tag in the stop.
+#[inline(never)]
 pub fn replace(s: &[u8], k: usize, tag: [u8; 32]) -> Side
     requires { at k + stop_size ≤ length s.now }
     ensures { result ≡ replaced coded (block_item tag) (coded_place s.now k) }
@@ -69,6 +70,7 @@ fn seat(s: &[u8], j: usize, k: usize, h: u8, tag: [u8; 32], b: Side) -> Side
 }
 
 // The root with a new column after the stop's.
+#[inline(never)]
 pub fn insert(s: &[u8], k: usize, h: u8, tag: [u8; 32]) -> Side
     requires { at k + stop_size ≤ length s.now }
     ensures { result ≡ inserted coded (column (record { height = h; tag = tag })) (coded_place s.now k) }

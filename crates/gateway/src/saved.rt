@@ -18,13 +18,13 @@ const COUNT_PLACE: usize = 3;
 
 const LABEL_PLACE: usize = 7;
 
-#[derive(Drop)]
+#[derive(Clone, Copy)]
 pub struct Saved {
     pub verdict: Verdict,
     pub bytes: [u8; 39],
 }
 
-#[derive(Drop)]
+#[derive(Clone, Copy)]
 pub struct Loaded {
     pub verdict: Verdict,
     pub metadata: Metadata,
@@ -61,6 +61,7 @@ pub fn save(m: Metadata) -> Saved
 }
 
 // Exactly 39 bytes of the stated form, with a count of at most 4,096.
+#[tactic(auto, unfolding(crate::specs::Saving::as_stated))]
 fn as_stated(s: &[u8]) -> bool
     ensures { result ≡ as_stated s.now }
 {

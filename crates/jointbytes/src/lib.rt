@@ -1,4 +1,6 @@
 // The joint proof's bytes (document 02, ask 3): the positions it is asked for, its form, and the pieces it is spelled out from.
+#![tactic(auto)]
+
 pub mod positions;
 pub mod read;
 pub mod write;

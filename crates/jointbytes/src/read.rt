@@ -12,7 +12,7 @@ use crate::{HEADER, SHARED, VERSION};
 use proofbytes::{ENTRY, STOP, STOP_KIND};
 
 // A proof's piece: its shared number, where its remaining entries begin, and how many they are.
-#[derive(Drop)]
+#[derive(Clone, Copy)]
 pub struct Piece {
     pub shared: usize,
     pub from: usize,

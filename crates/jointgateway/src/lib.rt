@@ -1,5 +1,7 @@
 //! The gateway's check of a joint proof. Each proof is spelled out in one work buffer over the one before, whose shared entries stay where
 //! they are, and is then checked as a single one.
+#![tactic(auto)]
+
 ghost use Rattle.std.specs.Prelude.{◌≡◌, true, ◌+◌, ◌-◌, ◌*◌, ◌≤◌, ◌<◌, length};
 ghost use Rattle.octets.specs.Runs.{patch, part};
 ghost use Rattle.refusals.specs.declared.Verdict.TheVariants.{Done};
@@ -37,7 +39,7 @@ const TAG: usize = 32;
 const TAGS: usize = 1024;
 
 // The tags in the order of the positions, `number` of them; what is not used is zero.
-#[derive(Drop)]
+#[derive(Clone, Copy)]
 pub struct Answer {
     pub verdict: Verdict,
     pub number: u64,
@@ -131,6 +133,7 @@ fn shared_after(s: &[u8], i: usize, q: Piece, n: usize) -> usize
 }
 
 // Every proof in its order, until one is refused.
+#[inline(never)]
 fn proofs(work: &mut [u8], tags: &mut [u8], s: &[u8], ps: &[u64], m: Metadata) -> Verdict
     requires { (m.count ≤ most_blocks) × (is_set ps.now ≡ true) × (joint_fits (length ps.now) s.now ≡ true)
         × (length work.old ≡ room) × (tags.old ≡ no_tags) }

@@ -1,4 +1,6 @@
 // The store's joint proof: one reply for a set of positions. Every refusal is settled before a byte is written.
+#![tactic(auto)]
+
 ghost use Rattle.jointstore.specs.Pledges.{Proves};
 
 use store::Proved;

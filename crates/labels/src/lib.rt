@@ -1,4 +1,6 @@
 // Tags, heights and labels: a block's tag and its match, the height drawn from a coin word, and the sides of a tree by value.
+#![tactic(auto)]
+
 ghost use Rattle.std.specs.Prelude.{◌≡◌, ◌+◌, ◌≤◌, [], ◌∷◌, ◌++◌, length};
 ghost use Rattle.octets.specs.Numbers.{be};
 ghost use Rattle.octets.specs.Runs.{patch};
@@ -15,13 +17,13 @@ use refusals::{Refusal, Verdict};
 // The most bytes of readings that a block has: with the seven bytes before them the longest message.
 pub const MOST_READINGS: usize = 4089;
 
-#[derive(Drop)]
+#[derive(Clone, Copy)]
 pub struct Tagged {
     pub verdict: Verdict,
     pub tag: [u8; 32],
 }
 
-#[derive(Drop)]
+#[derive(Clone, Copy)]
 pub struct Matched {
     pub verdict: Verdict,
     pub yes: bool,
@@ -77,6 +79,7 @@ pub fn matches(tag: [u8; 32], time: u32, readings: &[u8]) -> Matched
 }
 
 // The height drawn from a coin word.
+#[tactic(auto, using(crate::proofs::HeightLaws::cut), unfolding(crate::specs::Heights::height_of))]
 pub fn height(word: u16) -> u8
     ensures { result ≡ height_of word }
 {
@@ -86,13 +89,14 @@ pub fn height(word: u16) -> u8
 
 // What stands at a leaf's right, below a node or at its right, as its rank and label. An empty side is not one of rank 0: a leaf
 // of the head alone has rank 0 and a label.
-#[derive(Drop)]
+#[derive(Clone, Copy)]
 pub struct Side {
     pub rank: u64,
     pub label: [u8; 32],
     pub empty: bool,
 }
 
+#[tactic(auto, unfolding(crate::specs::CodeSides::no_side))]
 pub fn no_side() -> Side
     ensures { result ≡ no_side }
 {
@@ -173,6 +177,7 @@ fn label(level: u8, rank: u64, no_third: bool, third: [u8; 32], right: Side) -> 
 }
 
 // A leaf with its right side.
+#[tactic(auto, unfolding(crate::specs::CodeSides::leaf_of))]
 pub fn leaf(own: u64, tag: [u8; 32], right: Side) -> Side
     ensures { result ≡ leaf_of (item_of own tag) right }
 {
@@ -186,6 +191,7 @@ pub fn leaf(own: u64, tag: [u8; 32], right: Side) -> Side
 }
 
 // A node with its lower and its right side.
+#[tactic(auto, unfolding(crate::specs::CodeSides::node_of))]
 pub fn node(level: u8, lower: Side, right: Side) -> Side
     ensures { result ≡ node_of level lower right }
 {

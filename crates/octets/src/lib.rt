@@ -1,5 +1,7 @@
 // Numbers and runs of bytes in lent buffers. Every contract is an equation over lists (specs/): what is read, and the whole
 // buffer after a write. Callers show that the bytes are there; no function here is an entry point.
+#![tactic(auto)]
+
 ghost use Rattle.std.specs.Prelude.{◌≡◌, ◌+◌, ◌*◌, ◌≤◌, ◌<◌, length, replicate};
 ghost use Rattle.octets.specs.Numbers.{be, number_at};
 ghost use Rattle.octets.specs.Runs.{patch, part, same, all_zero};

@@ -18,7 +18,7 @@ use Rattle.octets.proofs.PartLaws.{part_middle}
 use Rattle.octets.proofs.RunLaws.{zero_zeros}
 use Rattle.skiplist.specs.Row.{Item}
 use Rattle.skiplist.specs.Entry.{Entry, down, right, pass, Place, Falls}
-use Rattle.skiplist.specs.Label.{Side, nothing}
+use Rattle.skiplist.specs.Label.{Side}
 use Rattle.skiplist.specs.Blocks.{Sent, item_of, shown}
 use Rattle.proofbytes.specs.declared.read.Fields.{Fields}
 use Rattle.proofbytes.specs.declared.read.Beside.{Beside}

@@ -18,7 +18,7 @@ use Rattle.octets.proofs.PartLaws.{length-part, part-add, get_or-part}
 use Rattle.octets.proofs.NumberLaws.{number_at-same}
 use Rattle.sha256.specs.Hash.{sha256}
 use Rattle.skiplist.specs.Entry.{Entry, down, right, pass}
-use Rattle.skiplist.specs.Recompute.{field, fields, passed}
+use Rattle.skiplist.specs.Recompute.{field, passed}
 use Rattle.skiplist.specs.Label.{Side, sides}
 use Rattle.skiplist.specs.Blocks.{item_of}
 use Rattle.proofbytes.specs.declared.read.Fields.{Fields}

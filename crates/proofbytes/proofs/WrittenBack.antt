@@ -20,7 +20,7 @@ use Rattle.skiplist.specs.Entry.{Entry, down, right, pass, Place, Falls}
 use Rattle.skiplist.specs.Leaves as leaves
 use Rattle.skiplist.specs.Check.{WellFormed}
 use Rattle.skiplist.specs.Limits.{most_height}
-use Rattle.skiplist.specs.Label.{Side, nothing}
+use Rattle.skiplist.specs.Label.{Side}
 use Rattle.skiplist.specs.Blocks.{Sent, item_of, shown}
 use Rattle.skiplist.proofs.Cases.{both}
 use Rattle.proofbytes.specs.declared.read.Beside.{Beside}

@@ -1,5 +1,7 @@
 // The proof's bytes (document 01, "Paths and proof bytes"): the numbers of their form; `write` writes them from the sides of a path,
 // `read` reads them and judges their form.
+#![tactic(auto)]
+
 pub mod read;
 pub mod write;
 

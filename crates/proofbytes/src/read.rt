@@ -29,7 +29,7 @@ const MOST_LEVEL: u8 = 15;
 
 // An entry: kind byte, level byte, four-byte rank or own, 32 bytes of label or tag. The stop begins with the same
 // fields.
-#[derive(Drop)]
+#[derive(Clone, Copy)]
 pub struct Fields {
     pub kind: u8,
     pub level: u8,
@@ -38,21 +38,21 @@ pub struct Fields {
 }
 
 // The stop's right side.
-#[derive(Drop)]
+#[derive(Clone, Copy)]
 pub struct Beside {
     pub rank: u64,
     pub label: [u8; 32],
 }
 
 // An entry's refusal, or the greatest level that the next one may have.
-#[derive(Drop)]
+#[derive(Clone, Copy)]
 pub enum Judged {
     Unfit,
     Fits(u8),
 }
 
 // The whole form: refusal 7, or the proved position and the proved rank.
-#[derive(Drop)]
+#[derive(Clone, Copy)]
 pub enum Formed {
     Broken,
     Sound { position: u64, rank: u64 },

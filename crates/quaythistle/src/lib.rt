@@ -1,5 +1,7 @@
 //! The C interface (include/quaythistle.h): one export for each public call, named after the call's crate and the call. None has a
 //! `requires`: what C passes within its own rules is answered or refused.
+#![tactic(auto)]
+
 ghost use Rattle.std.specs.Prelude.{◌++◌};
 ghost use Rattle.quaythistle.specs.Pledges.{Digests, Tags, Matches, Draws, Checks, Proves, Applies, Shapes, Saves, Loads, Answers};
 ghost use Rattle.quaythistle.specs.Pledges.{Files, Places, ProvesJointly, AnswersJointly};
@@ -9,28 +11,28 @@ use crate::plain::{QtCommand, QtDigest, QtFiling, QtMetadata, QtVerdict};
 mod plain;
 
 #[repr(C)]
-#[derive(Drop)]
+#[derive(Clone, Copy)]
 pub struct QtDigested {
     pub verdict: QtVerdict,
     pub digest: QtDigest,
 }
 
 #[repr(C)]
-#[derive(Drop)]
+#[derive(Clone, Copy)]
 pub struct QtMatched {
     pub verdict: QtVerdict,
     pub yes: bool,
 }
 
 #[repr(C)]
-#[derive(Drop)]
+#[derive(Clone, Copy)]
 pub struct QtMetadataAnswer {
     pub verdict: QtVerdict,
     pub metadata: QtMetadata,
 }
 
 #[repr(C)]
-#[derive(Drop)]
+#[derive(Clone, Copy)]
 pub struct QtProved {
     pub verdict: QtVerdict,
     pub length: u64,
@@ -38,21 +40,21 @@ pub struct QtProved {
 }
 
 #[repr(C)]
-#[derive(Drop)]
+#[derive(Clone, Copy)]
 pub struct QtCounted {
     pub verdict: QtVerdict,
     pub count: u64,
 }
 
 #[repr(C)]
-#[derive(Drop)]
+#[derive(Clone, Copy)]
 pub struct QtSaved {
     pub verdict: QtVerdict,
     pub bytes: [u8; 39],
 }
 
 #[repr(C)]
-#[derive(Drop)]
+#[derive(Clone, Copy)]
 pub struct QtAnswer {
     pub verdict: QtVerdict,
     pub tag: QtDigest,
@@ -61,7 +63,7 @@ pub struct QtAnswer {
 
 // Tags of 32 bytes each; to C they are as many digests.
 #[repr(C)]
-#[derive(Drop)]
+#[derive(Clone, Copy)]
 pub struct QtJointAnswer {
     pub verdict: QtVerdict,
     pub number: u64,

@@ -20,7 +20,7 @@ const GREATEST_HEIGHT: u8 = 255;
 
 // A digest, a tag or a label.
 #[repr(C)]
-#[derive(Drop)]
+#[derive(Clone, Copy)]
 pub struct QtDigest {
     pub bytes: [u8; 32],
 }
@@ -28,14 +28,14 @@ pub struct QtDigest {
 // The refusal's number in documents 01 and 02, 0 where the call is done, and the proof that it speaks of: 1 the first, 2 the second,
 // 0 none; of a joint proof the place.
 #[repr(C)]
-#[derive(Drop)]
+#[derive(Clone, Copy)]
 pub struct QtVerdict {
     pub refusal: u32,
     pub proof: u32,
 }
 
 #[repr(C)]
-#[derive(Drop)]
+#[derive(Clone, Copy)]
 pub struct QtMetadata {
     pub count: u64,
     pub label: QtDigest,
@@ -43,7 +43,7 @@ pub struct QtMetadata {
 
 // An operation, 0 Read, 1 Replace, 2 Insert, 3 Delete, at a position.
 #[repr(C)]
-#[derive(Drop)]
+#[derive(Clone, Copy)]
 pub struct QtCommand {
     pub operation: u32,
     pub height: u32,
@@ -53,7 +53,7 @@ pub struct QtCommand {
 
 // The place that the store proposes, the new block's height and time, and the times of the blocks at the place and after it.
 #[repr(C)]
-#[derive(Drop)]
+#[derive(Clone, Copy)]
 pub struct QtFiling {
     pub position: u64,
     pub height: u32,
@@ -71,6 +71,7 @@ fn proof(v: Verdict) -> u8
     }
 }
 
+#[inline(never)]
 pub fn verdict(v: Verdict) -> QtVerdict
     ensures { result ≡ plain_verdict v }
 {

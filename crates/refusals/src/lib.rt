@@ -1,19 +1,21 @@
 // What comes back when a call will not (document 01, "What comes back when it will not", and document 02's asks): one refusal for each
 // number of the table, 7, 8 and 9 with the proof that they speak of.
+#![tactic(auto)]
+
 ghost use Rattle.std.specs.Prelude.{◌≡◌};
 ghost use Rattle.refusals.specs.Numbers.{number_of, proof_of, proof_number, verdict_number};
 ghost use Rattle.refusals.specs.Order.{is_done};
 
 // Which proof of a command: Delete carries two, the others one, their First. Of a joint proof the spelled-out proof by its place, from
 // 1 on; 0 is the joint proof's own form.
-#[derive(Drop)]
+#[derive(Clone, Copy)]
 pub enum Which {
     First,
     Second,
     Place(u8),
 }
 
-#[derive(Drop)]
+#[derive(Clone, Copy)]
 pub enum Refusal {
     BadImage,
     BadPosition,
@@ -33,7 +35,7 @@ pub enum Refusal {
     WrongBlock,
 }
 
-#[derive(Drop)]
+#[derive(Clone, Copy)]
 pub enum Verdict {
     Done,
     Refused(Refusal),

@@ -3,7 +3,7 @@
 -- Assumes nothing.
 use Rattle.std.proofs.Common.{◌≡◌, ℕ, zero, suc, ◌-◌, ◌*◌, ◌/◌, ◌%◌, ◌^◌, ◌<◌, sym, refl, ap, ◌∙◌, pow-suc, arith}
 use lib.Bits.{bit_and, bit_xor, and_shr, and_mod, xor_shr, xor_mod}
-use Rattle.sha256.specs.Words.{complement, ch, maj}
+use Rattle.sha256.specs.Words.{ch, maj}
 
 -- an operation on three numbers that goes digit by digit
 record Digitwise (f : ℕ → ℕ → ℕ → ℕ) : Type 0 where

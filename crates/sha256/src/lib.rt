@@ -1,4 +1,6 @@
 // SHA-256 (FIPS 180-4) of messages of at most 4,096 bytes. Section numbers are those of FIPS 180-4.
+#![tactic(auto)]
+
 use refusals::{Refusal, Verdict};
 use std::num::wrapping_add_u32;
 
@@ -18,7 +20,7 @@ ghost use Rattle.sha256.specs.Answer.{longest, digested, long_message, Answers};
 const LONGEST: usize = 4096;
 
 // A message's digest, or a refusal with 32 zero bytes.
-#[derive(Drop)]
+#[derive(Clone, Copy)]
 pub struct Digested {
     pub verdict: Verdict,
     pub bytes: [u8; 32],
@@ -93,7 +95,7 @@ fn first_rounds(s: [u32; 8], w: [u32; 16]) -> [u32; 8]
 }
 
 // The working variables before a round, and the sixteen words of the schedule before that round's own.
-#[derive(Drop)]
+#[derive(Clone, Copy)]
 struct Window {
     s: [u32; 8],
     w: [u32; 16],
@@ -337,6 +339,7 @@ fn long_message() -> Digested
 }
 
 // The digest of a message of at most 4,096 bytes. A longer one is refused.
+#[inline(never)]
 pub fn digest(m: &[u8]) -> Digested
     ensures { Answers m.now result }
 {

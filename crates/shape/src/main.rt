@@ -1,61 +1,87 @@
 // The shape printer: reads an image from standard input and prints a header and, for each block, its position, its height and the
 // number of entries in the path to it.
+#![tactic(auto)]
+
+ghost use Rattle.std.specs.Prelude.{◌≤◌, IfOk, length};
+
 use refusals::Verdict;
+use std::io::{self, ErrorKind, Read};
 
 const MOST_INPUT: usize = 65536;
 // More blocks than an image of 65,536 bytes can have, which is 1,985.
 const MOST_BLOCKS: usize = 2048;
 
-fn refused(number: u8) {
-    io::write_all(1, b"refused ");
-    io::print_decimal(1, number as u64);
-    io::write_all(1, b"\n");
+fn refused(rt: &impl Print, number: u8) -> io::Result<()> {
+    rt.write_all(b"refused ")?;
+    rt.print(number)?;
+    rt.write_all(b"\n")
 }
 
-fn print_line(position: u64, height: u64, entries: u64) {
-    io::print_decimal(1, position);
-    io::write_all(1, b" ");
-    io::print_decimal(1, height);
-    io::write_all(1, b" ");
-    io::print_decimal(1, entries);
-    io::write_all(1, b"\n");
+fn print_line(rt: &impl Print, position: u64, height: u64, entries: u64) -> io::Result<()> {
+    rt.print(position)?;
+    rt.write_all(b" ")?;
+    rt.print(height)?;
+    rt.write_all(b" ")?;
+    rt.print(entries)?;
+    rt.write_all(b"\n")
 }
 
-fn print_blocks(image: &[u8], entries: &[u64]) {
-    let mut i = 0;
-    while i < entries.len() {
+fn print_blocks(rt: &impl Print, image: &[u8], entries: &[u64]) -> io::Result<()> {
+    for i in 0..entries.len() {
         let position = i as u64 + 1;
-        print_line(position, shapes::height(image, position), entries[i]);
-        i += 1;
+        print_line(rt, position, shapes::height(image, position), entries[i])?;
     }
+    Ok(())
 }
 
-fn print_shape(image: &[u8], entries: &[u64], blocks: usize) {
-    io::write_all(1, b"blocks ");
-    io::print_decimal(1, blocks as u64);
-    io::write_all(1, b"\n");
+fn print_shape(rt: &impl Print, image: &[u8], entries: &[u64], blocks: usize) -> io::Result<()> {
+    rt.write_all(b"blocks ")?;
+    rt.print(blocks as u64)?;
+    rt.write_all(b"\n")?;
     if blocks <= entries.len() {
-        print_blocks(image, &entries[0..blocks]);
+        print_blocks(rt, image, &entries[0..blocks])?;
     }
+    Ok(())
 }
 
-fn show(image: &[u8]) {
+fn show(rt: &impl Print, image: &[u8]) -> io::Result<()> {
     let mut entries = [0u64; MOST_BLOCKS];
     let s = shapes::shape(image, &mut entries);
     let v = s.verdict;
     match v {
-        Verdict::Done => print_shape(image, &entries, s.blocks as usize),
-        Verdict::Refused(r) => refused(refusals::number(r)),
+        Verdict::Done => print_shape(rt, image, &entries, s.blocks as usize),
+        Verdict::Refused(r) => refused(rt, refusals::number(r)),
     }
 }
 
-// One byte more than the most is read, so that longer input is seen.
-fn main() {
-    let mut input = [0u8; 65537];
-    let n = io::read_full(0, &mut input);
-    if MOST_INPUT < n {
-        refused(5);
-        return;
+// Fills the buffer, or stops where the input ends: how many bytes it read.
+fn fill<R: Read>(reader: &mut R, buf: &mut [u8]) -> io::Result<usize>
+    ensures { IfOk result (λ n. n ≤ length buf.new) }
+{
+    let mut at = 0usize;
+    for _ in 0..u64::MAX {
+        if at >= buf.len() {
+            return Ok(buf.len());
+        }
+        match reader.read(&mut buf[at..]) {
+            Ok(0) => return Ok(at),
+            Ok(n) => at += n,
+            Err(e) => {
+                if e.kind() != ErrorKind::Interrupted {
+                    return Err(e);
+                }
+            }
+        }
     }
-    show(&input[..n]);
+    Err(io::Error::from(ErrorKind::Interrupted))
+}
+
+// One byte more than the most is read, so that longer input is seen.
+fn main(rt: HostRuntime) -> io::Result<()> {
+    let mut input = [0u8; 65537];
+    let n = fill(&mut rt.reader(), &mut input)?;
+    if MOST_INPUT < n {
+        return refused(&rt, 5);
+    }
+    show(&rt, &input[..n])
 }

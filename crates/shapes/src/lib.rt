@@ -1,5 +1,7 @@
 // The shape of an archive: the number of entries in the path to each of its blocks, from the heights alone, in two passes with one
 // counter for each height. No tree is built and nothing is hashed.
+#![tactic(auto)]
+
 ghost use Rattle.std.specs.Prelude.{◌≡◌, true, ◌≤◌, ◌<◌, length, get_or};
 ghost use Rattle.octets.specs.Runs.{patch};
 ghost use Rattle.archive.specs.Reading.{layout_of, count_of, sound};
@@ -9,7 +11,7 @@ ghost use Rattle.shapes.specs.Counters.{Raised, downs_of, entries_up_to, columns
 use archive::Layout;
 use refusals::{Refusal, Verdict};
 
-#[derive(Drop)]
+#[derive(Clone, Copy)]
 pub struct Shaped {
     pub verdict: Verdict,
     pub blocks: u64,

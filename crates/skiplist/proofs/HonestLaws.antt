@@ -8,7 +8,7 @@ use mathlib.Core.Bool.{Bool, true, false}
 use mathlib.Core.Option.{some}
 use mathlib.Core.List.{List, [], ◌∷◌, ◌++◌, map, append_assoc}
 use Rattle.skiplist.specs.Row.{Item, Column, AtMost, weights, last_of}
-use Rattle.skiplist.specs.Tree.{Tree, leaf, tree}
+use Rattle.skiplist.specs.Tree.{Tree, tree}
 use Rattle.skiplist.specs.Sides.{Sides, trees, side_of}
 use Rattle.skiplist.specs.Entry.{Entry, Place, map_place}
 use Rattle.skiplist.specs.Recompute.{plug, whole}

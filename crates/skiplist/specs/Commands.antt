@@ -12,7 +12,7 @@ use Rattle.skiplist.specs.Label.{Side, sides}
 use Rattle.skiplist.specs.Messages.{tree_messages, proof_messages}
 use Rattle.skiplist.specs.Clash.{Clash}
 use Rattle.skiplist.specs.Check.{Accepted}
-use Rattle.skiplist.specs.Limits.{most_blocks, most_height}
+use Rattle.skiplist.specs.Limits.{most_blocks, most_height, digest_bytes}
 use Rattle.skiplist.specs.Blocks.{Block, Sent, WithinLimits, block_item, column, root, metadata_of, shown, tag_at}
 
 -- "Read p", "Replace p .. by a tag", "Insert after p .. a tag with a height", "Delete p"
@@ -105,3 +105,7 @@ module _ (H : List ℕ → List ℕ) where
       → Checks k (metadata_of H bs) z w
       → Clash H (check_messages k z w) (tree_messages H (root bs))
       ⊎ ((predicted k (metadata_of H bs) z w ≡ some (metadata_of H (edited k bs))) × (reported k z w ≡ tag_at (spot k) bs))
+
+-- the same of every digest of 32 bytes
+abbrev pub AlwaysTrusted : Type 0
+AlwaysTrusted = (H : List ℕ → List ℕ) → ((m : List ℕ) → length (H m) ≡ digest_bytes) → Trusted H

@@ -1,5 +1,7 @@
 // The store: an image checked, a position proved, a command applied. Every call refuses in document 01's order before
 // it writes a byte.
+#![tactic(auto)]
+
 ghost use Rattle.std.specs.Prelude.{◌≡◌};
 ghost use Rattle.refusals.specs.declared.Verdict.TheVariants.{Done};
 ghost use Rattle.archive.specs.Writing.{rewritten};
@@ -16,20 +18,20 @@ pub mod plan;
 pub mod runs;
 mod slots;
 
-#[derive(Drop)]
+#[derive(Clone, Copy)]
 pub struct Checked {
     pub verdict: Verdict,
     pub metadata: Metadata,
 }
 
-#[derive(Drop)]
+#[derive(Clone, Copy)]
 pub struct Proved {
     pub verdict: Verdict,
     pub length: u64,
     pub entries: u64,
 }
 
-#[derive(Drop)]
+#[derive(Clone, Copy)]
 pub struct Applied {
     pub verdict: Verdict,
     pub count: u64,

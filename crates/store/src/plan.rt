@@ -18,7 +18,7 @@ use proofbytes::{ENTRY, LEAST_PROOF, MOST_ENTRIES};
 use refusals::{Refusal, Verdict};
 
 // A height, and the number of columns that have an entry.
-#[derive(Drop)]
+#[derive(Clone, Copy)]
 pub struct Mark {
     pub level: u64,
     pub count: u64,

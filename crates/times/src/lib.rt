@@ -1,4 +1,6 @@
 //! Sample times in the order of an archive: the place where a late block belongs, found by the store from its own times.
+#![tactic(auto)]
+
 ghost use Rattle.std.specs.Prelude.{◌≡◌};
 ghost use Rattle.times.specs.Times.{place_for};
 

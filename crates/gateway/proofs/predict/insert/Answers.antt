@@ -1,0 +1,10 @@
+-- The kept entries over what is seated below them.
+-- Assumes nothing.
+use Rattle.gateway.proofs.Seats.{inserted_parts}
+use Rattle.gateway.proofs.predict.insert.Goals as goal
+
+pub returns : goal.returns
+returns c =
+    let a = c.args in
+    rw (c.fold.ensures, c.seat-t.ensures, c.stop_side.ensures, c.beside_at-b.ensures.0)
+    (inserted_parts a.s.now a.k a.h a.tag c.kept-j.ensures.0)

@@ -1,0 +1,13 @@
+-- The entries over the stop's leaf with the new tag.
+-- Assumes nothing.
+use Prim.Native.Nat.{◌-◌}
+use mathlib.Core.Path.{◌≡◌}
+use native.Mathlib.Omega.{arith}
+use Rattle.gateway.proofs.Climbs.{taken_all}
+use Rattle.gateway.proofs.predict.replace.Goals as goal
+
+pub returns : goal.returns
+returns c =
+    let k = c.args.k in
+    let e : k - 0 ≡ k = omega arith in
+    rw (c.fold.ensures, taken_all, e, c.leaf-t.ensures, c.stop_side.ensures, c.beside_at-b.ensures.0)

@@ -1,0 +1,57 @@
+-- `jointbytes::read::shares_most` meets its contract.
+-- Assumes nothing.
+use native.Mathlib.Omega.{arith}
+use mathlib.Core.Path.{◌≡◌, ◌∙◌}
+use Prim.Native.Nat.{◌+◌, ◌-◌, ◌*◌}
+use Rattle.octets.specs.Runs.{part}
+use Rattle.jointbytes.proofs.StandLaws.{test_over, test_all, test_none, test_held, test_next}
+use Rattle.jointbytes.proofs.read.shares_most.Goals as goal
+
+pub returns-then-k-q : goal.returns-then-k-q
+returns-then-k-q c =
+    test_over c.args.s.now c.args.i c.args.k c.args.q c.requires.2 c.requires.3 c.if-k-q.true
+
+pub returns-then-k-q-2 : goal.returns-then-k-q-2
+returns-then-k-q-2 c =
+    test_all c.args.s.now c.args.i c.args.k c.args.q c.requires.2 c.requires.3 c.if-k-q-2.true
+
+pub returns-then-q-eq0 : goal.returns-then-q-eq0
+returns-then-q-eq0 c =
+    test_none c.args.s.now c.args.i c.args.k c.args.q c.requires.2 c.requires.3 c.if-k-q.false c.if-q-eq0.true
+
+pub overflow_sub-at : goal.overflow_sub-at
+overflow_sub-at c =
+    let h = test_held c.args.s.now c.args.i c.args.k c.args.q c.requires.2 c.requires.3 c.requires.1 c.if-k-q.false c.if-k-q-2.false c.holder-h.ensures in
+    omega (arith, h.shares)
+
+pub overflow_mul-at : goal.overflow_mul-at
+overflow_mul-at c =
+    let h = test_held c.args.s.now c.args.i c.args.k c.args.q c.requires.2 c.requires.3 c.requires.1 c.if-k-q.false c.if-k-q-2.false c.holder-h.ensures in
+    omega (arith, h.shares, h.owns, h.fits)
+
+pub overflow_add-at : goal.overflow_add-at
+overflow_add-at c =
+    let h = test_held c.args.s.now c.args.i c.args.k c.args.q c.requires.2 c.requires.3 c.requires.1 c.if-k-q.false c.if-k-q-2.false c.holder-h.ensures in
+    omega (arith, h.shares, h.owns, h.fits)
+
+pub overflow_add-at-2 : goal.overflow_add-at-2
+overflow_add-at-2 c =
+    let h = test_held c.args.s.now c.args.i c.args.k c.args.q c.requires.2 c.requires.3 c.requires.1 c.if-k-q.false c.if-k-q-2.false c.holder-h.ensures in
+    omega (arith, h.shares, h.owns, h.fits)
+
+pub slice_bounds-same_bytes-end : goal.slice_bounds-same_bytes-end
+slice_bounds-same_bytes-end c =
+    let h = test_held c.args.s.now c.args.i c.args.k c.args.q c.requires.2 c.requires.3 c.requires.1 c.if-k-q.false c.if-k-q-2.false c.holder-h.ensures in
+    omega (arith, h.shares, h.owns, h.fits)
+
+pub returns : goal.returns
+unfolding part
+returns c =
+    let q = c.args.q in
+    let g = c.holder-h.result in
+    let l = c.if-k-q.false in
+    let m = c.if-k-q-2.false in
+    let h = test_held c.args.s.now c.args.i c.args.k q c.requires.2 c.requires.3 c.requires.1 l m c.holder-h.ensures in
+    let e : (g.from + 38 * (q.shared - g.shared) + 38) - (g.from + 38 * (q.shared - g.shared)) ≡ 38 = omega arith in
+    let d : (q.from + 38) - q.from ≡ 38 = omega arith in
+    test_next c.args.s.now c.args.i c.args.k q c.requires.2 c.requires.3 h l m c.if-q-eq0.false (c.same_bytes.ensures ∙ rw (e, d))

@@ -1,0 +1,13 @@
+-- `proofbytes::write::entry` meets its contract.
+-- Assumes nothing.
+use Rattle.proofbytes.proofs.WriteLaws.{entry_is}
+use borrow.Author.Rules.{rules}
+use Rattle.proofbytes.proofs.write.entry.Goals as goal
+
+pub returns : goal.returns
+returns c =
+    entry_is c.args.d.now c.put_one.new.d c.put_one-2.new.d c.put_four.new.d c.copy.new.d
+    c.args.bytes
+    c.args.kind c.args.level c.args.rank c.requires c.well_formed.1.1.1.1.0.1.0.1 (search rules)
+    (search rules)
+    c.put_one.ensures c.put_one-2.ensures c.put_four.ensures c.copy.ensures

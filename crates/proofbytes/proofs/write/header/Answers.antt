@@ -1,0 +1,10 @@
+-- `proofbytes::write::header` meets its contract.
+-- Assumes nothing.
+use Rattle.proofbytes.proofs.WriteLaws.{header_is}
+use borrow.Author.Rules.{rules}
+use Rattle.proofbytes.proofs.write.header.Goals as goal
+
+pub returns : goal.returns
+returns c =
+    header_is c.args.d.now c.put_one.new.d c.put_two.new.d c.args.k (search rules)
+    c.put_one.ensures c.put_two.ensures
