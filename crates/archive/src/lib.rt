@@ -85,6 +85,7 @@ pub fn holds(b: &[u8], p: u64) -> bool
 }
 
 // Refusal 1, but for the heights.
+#[tactic(auto, using(crate::proofs::SoundLaws::too_many))]
 fn frame(b: &[u8]) -> bool
     ensures { result ≡ framed b.now }
 {

@@ -182,6 +182,7 @@ fn judge(e: Fields, most: u8) -> Judged
 }
 
 // What an entry adds to the proved position.
+#[tactic(auto, unfolding(crate::specs::Form::ahead_of))]
 fn ahead(e: Fields) -> u64
     ensures { result ≡ ahead_of e }
 {

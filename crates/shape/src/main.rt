@@ -54,17 +54,17 @@ fn show(rt: &impl Print, image: &[u8]) -> io::Result<()> {
     }
 }
 
-// Fills the buffer, or stops where the input ends: how many bytes it read.
+// Fills the buffer, or stops where the input ends: how many bytes it read. A read that a signal broke off is tried again.
 fn fill<R: Read>(reader: &mut R, buf: &mut [u8]) -> io::Result<usize>
     ensures { IfOk result (λ n. n ≤ length buf.new) }
 {
     let mut at = 0usize;
     for _ in 0..u64::MAX {
         if at >= buf.len() {
-            return Ok(buf.len());
+            break;
         }
         match reader.read(&mut buf[at..]) {
-            Ok(0) => return Ok(at),
+            Ok(0) => break,
             Ok(n) => at += n,
             Err(e) => {
                 if e.kind() != ErrorKind::Interrupted {
@@ -73,7 +73,7 @@ fn fill<R: Read>(reader: &mut R, buf: &mut [u8]) -> io::Result<usize>
             }
         }
     }
-    Err(io::Error::from(ErrorKind::Interrupted))
+    Ok(at)
 }
 
 // One byte more than the most is read, so that longer input is seen.

@@ -1,5 +1,5 @@
 -- "Write tree(c, R) for column c followed by a run R of columns." The three cases stand word for word as a relation,
--- `TreeOf`, and the tree is computed by `tree` (Theorems: tree-is and tree_only, TreeOf c R t holds exactly where t
+-- `TreeOf`, and the tree is computed by `tree` (Theorems: tree_is and tree_only, TreeOf c R t holds exactly where t
 -- is tree c R).
 -- Assumes nothing.
 use Rattle.std.specs.Prelude.{ℕ, zero, suc, ◌+◌, ◌<◌, cond, List, [], ◌∷◌, ◌++◌, ltb}

@@ -1,6 +1,7 @@
 -- What prove answers: each return of the plan is the first refusal that is due, or none is; and where none is, the path
 -- is written.
 -- Assumes nothing.
+use native.Mathlib.Omega.{arith}
 use Prim.Native.Nat.{ℕ, ◌+◌, ◌≤◌, ◌<◌}
 use mathlib.Core.Path.{◌≡◌, sym, ap, ◌∙◌}
 use mathlib.Core.Bool.{true, false}
@@ -13,7 +14,8 @@ use Rattle.refusals.specs.declared.Refusal.TheVariants.{BadImage, BadPosition, T
 use Rattle.refusals.specs.declared.Verdict.TheVariants.{Done}
 use Rattle.refusals.specs.Order.{is_done}
 use Rattle.refusals.proofs.OrderLaws.{done_is, done-none, done_settled, refused-settled}
-use Rattle.archive.specs.Reading.{count_of, sound}
+use Rattle.archive.specs.declared.Layout.{Layout}
+use Rattle.archive.specs.Reading.{layout_of, count_of, sound}
 use Rattle.proofbytes.specs.Layout.{most_entries, proof_size}
 use Rattle.store.specs.declared.Proved.{Proved}
 use Rattle.store.specs.Answers.{entries_at, proof_at, prove_rules, prove_verdict, prove_of, buffer_after}
@@ -80,6 +82,12 @@ module _ (b : List ℕ) (p room at : ℕ) where
         fits = ltb-false room (at + proof_size (entries_at b p)) n.1.1.1.0;
         entries = rw v;
       }
+
+-- a position past the end, by the count of the layout that the plan reads
+pub past_the_end : (b : List ℕ) (p room at : ℕ) (x : Layout) → sound b ≡ true → x ≡ layout_of b → x.count < p
+    → refused_proof BadPosition ≡ prove_of b p room at
+past_the_end b p room at x s e h =
+    position_refused b p room at s (omega (arith, h, ap (λ (y : Layout). y.count) e))
 
 -- ---- the pledge
 pub prove_done : (b : List ℕ) (p : ℕ) (lent : List ℕ) (at : ℕ) (t : Proved) (after : List ℕ) → t

@@ -129,6 +129,7 @@ pub fn refused(r: Refusal) -> Proved
 }
 
 // What Prove answers: "Prove: 1, 2, 6, 5."
+#[tactic(auto, using(crate::proofs::ProveLaws::past_the_end))]
 pub fn proof(b: &[u8], position: u64, room: u64, place: u64) -> Proved
     ensures { result ≡ prove_of b.now position room place }
 {

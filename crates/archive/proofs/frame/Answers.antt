@@ -2,7 +2,7 @@
 -- Assumes nothing.
 use mathlib.Core.Path.{refl, ap}
 use Rattle.archive.specs.declared.Layout.{Layout}
-use Rattle.archive.proofs.SoundLaws.{too_short, other_version, other_length, too_many, last_test}
+use Rattle.archive.proofs.SoundLaws.{too_short, other_version, other_length, last_test}
 use borrow.Author.Rules.{rules}
 use Rattle.archive.proofs.frame.Goals as goal
 
@@ -18,12 +18,6 @@ returns-then-four_at-n c =
     other_length _ (search rules) c.one_at.result c.one_at.ensures.0 c.if-one_at-ne-VERSION.false c.header-n.result.count
     c.four_at.result (ap (λ (x : Layout). x.count) c.header-n.ensures.0) c.four_at.ensures.0
     c.if-four_at-n.true
-
-pub returns-then-n-gt-MOST_BLOCKS : goal.returns-then-n-gt-MOST_BLOCKS
-returns-then-n-gt-MOST_BLOCKS c =
-    too_many _ (search rules) c.one_at.result c.one_at.ensures.0 c.if-one_at-ne-VERSION.false c.header-n.result.count
-    c.four_at.result (ap (λ (x : Layout). x.count) c.header-n.ensures.0) c.four_at.ensures.0 c.if-four_at-n.false
-    c.if-n-gt-MOST_BLOCKS.true
 
 pub returns : goal.returns
 returns c =

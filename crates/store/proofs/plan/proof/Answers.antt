@@ -5,22 +5,11 @@ use mathlib.Core.Path.{sym, ◌∙◌}
 use Rattle.archive.proofs.SoundLaws.{sound_is}
 use Rattle.store.proofs.RunLaws.{opened, count_is}
 use Rattle.store.proofs.ProofLaws.{counted}
-use Rattle.store.proofs.ProveLaws.{image_refused, position_refused, deep_refused, room-refused, proof_planned}
+use Rattle.store.proofs.ProveLaws.{image_refused, deep_refused, room-refused, proof_planned}
 use Rattle.store.proofs.plan.proof.Goals as goal
 
 pub header-x-requires : goal.header-x-requires
 header-x-requires c = (sound_is _ (sym c.is_sound.ensures ∙ c.if-is_sound.true)).frame.long
-
-pub returns-then-x-position : goal.returns-then-x-position
-returns-then-x-position c =
-    let s = sym c.is_sound.ensures ∙ c.if-is_sound.true in
-    c.refused.ensures
-    ∙ position_refused _ _ _ _ s (omega (
-      arith,
-      c.if-x-position.true,
-      count_is _ _
-          (opened _ _ s c.header-x.ensures.0),
-    ))
 
 pub entries-k-requires : goal.entries-k-requires
 entries-k-requires c =
