@@ -2,13 +2,14 @@
 -- Assumes nothing.
 use Prim.Native.Nat.{◌+◌}
 use native.Mathlib.Omega.{arith}
-use mathlib.Core.Path.{ap, ◌∙◌}
+use mathlib.Core.Path.{sym, ap, ◌∙◌}
+use mathlib.Core.List.{[]}
 use Rattle.refusals.specs.declared.Which.TheVariants.{Second}
 use Rattle.proofbytes.proofs.FormLaws.{form_sized}
 use Rattle.gateway.specs.Working.{blamed}
 use Rattle.gateway.proofs.Meets.{first_low}
 use Rattle.gateway.proofs.Screens.{fine-passed}
-use Rattle.gateway.proofs.Answers.{examined_finding, examined_below, second-refused, second_fine, second-done}
+use Rattle.gateway.proofs.Answers.{rules_done, examined_finding, examined_below, second-refused, second-done}
 use Rattle.gateway.proofs.after_first.Goals as goal
 
 pub overflow_add-j : goal.overflow_add-j
@@ -19,9 +20,8 @@ overflow_add-j c =
 pub after_both-requires : goal.after_both-requires
 after_both-requires c =
     let a = c.args in
-    let f = second_fine a.m a.p a.a.now a.b.now
-    (c.blame-v.ensures ∙ ap (blamed Second) (examined_finding a.b.now a.p a.m (a.j + 1)
-    c.examine-y.ensures)) c.in-Done.is in (
+    let v = c.blame-v.ensures ∙ ap (blamed _) (examined_finding a.b.now a.p a.m (a.j + 1) c.examine-y.ensures) in
+    let f = (rules_done _ a.b.now a.p a.m [] (sym v ∙ c.in-Done.is)).1 in (
       c.requires.0,
       c.requires.1,
       fine-passed a.b.now a.p a.m f,

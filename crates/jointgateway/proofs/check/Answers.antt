@@ -14,11 +14,6 @@ returns-then-not-is_set c =
     let a = c.args in
     pledged a.m a.positions.now a.s.now (c.refused-then-not-is_set.ensures ∙ no_set a.m a.positions.now a.s.now c.if-count-gt-MOST_BLOCKS.false (sym c.is_set.ensures ∙ c.if-not-is_set.true))
 
-pub returns-then-not-within : goal.returns-then-not-within
-returns-then-not-within c =
-    let a = c.args in
-    pledged a.m a.positions.now a.s.now (c.refused-then-not-within.ensures ∙ no_position a.m a.positions.now a.s.now c.if-count-gt-MOST_BLOCKS.false (sym c.is_set.ensures ∙ c.if-not-is_set.false) (sym c.within.ensures ∙ c.if-not-within.true))
-
 pub returns-then-not-form : goal.returns-then-not-form
 returns-then-not-form c =
     let a = c.args in
@@ -32,3 +27,8 @@ pub returns : goal.returns
 returns c =
     let a = c.args in
     pledged a.m a.positions.now a.s.now (c.spelled_out.ensures ∙ in_form a.m a.positions.now a.s.now c.if-count-gt-MOST_BLOCKS.false (sym c.is_set.ensures ∙ c.if-not-is_set.false) (sym c.within.ensures ∙ c.if-not-within.false) (sym c.form.ensures ∙ c.if-not-form.false))
+
+pub returns-then-not-within : goal.returns-then-not-within
+returns-then-not-within c =
+    let a = c.args in
+    pledged a.m a.positions.now a.s.now (c.refused-then-not-within.ensures ∙ no_position a.m a.positions.now a.s.now c.if-count-gt-MOST_BLOCKS.false (sym c.is_set.ensures ∙ c.if-not-is_set.false) (sym c.within.ensures ∙ c.if-not-within.true))

@@ -25,7 +25,7 @@ pub shape_of-t : goal.shape_of-t
 shape_of-t c =
     let n = copied_length c.args.m.now c.args.t.now _ c.requires.0 c.copy.ensures in
     ap length c.put_four.ensures
-    ∙ length-patch _ (be 4 ((c.args.before + length c.args.m.now) * 8)) _
+    ∙ length-patch _ (be 4 _) _
     (simp (length-set, length-be) (omega (arith, c.block_count-end.ensures)))
     ∙ simp length-set n ∙ sym (ap length c.requires.0)
 

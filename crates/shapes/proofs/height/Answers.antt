@@ -10,12 +10,12 @@ use Rattle.shapes.proofs.height.Goals as goal
 pub header-x-requires : goal.header-x-requires
 header-x-requires c =
     let a = c.args in
-    omega (arith, held_is a.image.now a.position (sym c.holds.ensures ∙ c.if-holds.true))
+    omega (arith, held_is a.image.now _ (sym c.holds.ensures ∙ c.if-holds.true))
 
 pub overflow_sub-position : goal.overflow_sub-position
 overflow_sub-position c =
     let a = c.args in
-    omega (arith, held_is a.image.now a.position (sym c.holds.ensures ∙ c.if-holds.true))
+    omega (arith, held_is a.image.now _ (sym c.holds.ensures ∙ c.if-holds.true))
 
 pub height-requires : goal.height-requires
 height-requires c =

@@ -51,19 +51,6 @@ pub bounds-out-i : goal.bounds-out-i
 bounds-out-i c =
     omega (arith, count_is c.args.b.now c.args.x c.requires.1)
 
-pub overflow_add-out : goal.overflow_add-out
-overflow_add-out c =
-    let b = c.args.b.now in
-    let n = count_is b c.args.x c.requires.1 in
-    let k = right_counters b c.loop-i.m c.raised-next.result c.loop-i.i c.height-h.result
-    c.height-h.ensures.0 c.loop-i.invariant.4 c.raised-next.ensures in
-    omega (
-      arith,
-      few b c.requires.0,
-      right_few b c.loop-i.out c.args.out.now c.loop-i.i (omega arith)
-          (omega arith) c.loop-i.invariant.3 c.raised-next.result k,
-    )
-
 pub offset_bounds-out-i-in-loop-i : goal.offset_bounds-out-i-in-loop-i
 offset_bounds-out-i-in-loop-i c =
     omega (arith, few c.args.b.now c.requires.0)
@@ -94,6 +81,19 @@ loop-i-preserved c =
       right_turn b c.loop-i.out o c.loop-i.i (omega arith) (omega arith) v.3 _
           (right_sum b c.loop-i.out o c.loop-i.i (omega arith) (omega arith) v.3 c.raised-next.result k),
       rw add-one k,
+    )
+
+pub overflow_add-out : goal.overflow_add-out
+overflow_add-out c =
+    let b = c.args.b.now in
+    let n = count_is b c.args.x c.requires.1 in
+    let k = right_counters b c.loop-i.m c.raised-next.result c.loop-i.i c.height-h.result
+    c.height-h.ensures.0 c.loop-i.invariant.4 c.raised-next.ensures in
+    omega (
+      arith,
+      few b c.requires.0,
+      right_few b c.loop-i.out c.args.out.now c.loop-i.i (omega arith)
+          (omega arith) c.loop-i.invariant.3 c.raised-next.result k,
     )
 
 pub shape_of-out : goal.shape_of-out

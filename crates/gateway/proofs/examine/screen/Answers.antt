@@ -16,6 +16,14 @@ entry_at-e-requires c =
     let z = sound_sized a.s.now a.p a.m _ _ c.form-f.ensures c.in-Sound.is in
     omega (arith, z.long, c.entry_count.ensures)
 
+pub returns-else-rank-m : goal.returns-else-rank-m
+returns-else-rank-m c =
+    let a = c.args in
+    screened a.s.now a.p a.m _ _ c.form-f.ensures c.in-Sound.is c.if-position-p.false
+    c.entry_at-e.result
+    (c.entry_at-e.ensures.0 ∙ rw c.entry_count.ensures) c.own_fits.ensures
+    (c.if-not-own_fits.false) c.if-rank-m.false
+
 pub returns-then-not-own_fits : goal.returns-then-not-own_fits
 returns-then-not-own_fits c =
     let a = c.args in
@@ -35,11 +43,3 @@ pub returns-in-Broken : goal.returns-in-Broken
 returns-in-Broken c =
     let a = c.args in
     misread a.s.now a.p a.m c.form-f.ensures c.in-Broken.is
-
-pub returns-else-rank-m : goal.returns-else-rank-m
-returns-else-rank-m c =
-    let a = c.args in
-    screened a.s.now a.p a.m _ _ c.form-f.ensures c.in-Sound.is c.if-position-p.false
-    c.entry_at-e.result
-    (c.entry_at-e.ensures.0 ∙ rw c.entry_count.ensures) c.own_fits.ensures
-    (c.if-not-own_fits.false) c.if-rank-m.false

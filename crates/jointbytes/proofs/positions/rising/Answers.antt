@@ -12,7 +12,7 @@ loop-i-init c = (search rules, rising_start c.args.ps.now)
 pub returns-then-ps-i : goal.returns-then-ps-i
 returns-then-ps-i c =
     let ps = c.args.ps.now in
-    sym (c.loop-i.invariant.1 ∙ rises_not ps c.loop-i.i (omega arith) c.if-ps-i.true)
+    sym (c.loop-i.invariant.1 ∙ rises_not ps c.loop-i.i (omega arith) (omega (arith, c.if-ps-i.true)))
 
 pub loop-i-preserved : goal.loop-i-preserved
 loop-i-preserved c =

@@ -18,7 +18,7 @@ height-requires c =
 pub returns-then-h-height : goal.returns-then-h-height
 returns-then-h-height c =
     sym (nearest_stop c.args.b.now c.args.h c.loop-i.i c.height.result (search rules)
-    c.height.ensures.0 c.if-h-height.true)
+    c.height.ensures.0 (omega (arith, c.if-h-height.true)))
     ∙ c.loop-i.invariant.1
 
 pub loop-i-preserved : goal.loop-i-preserved
