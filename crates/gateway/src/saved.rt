@@ -43,6 +43,7 @@ fn put_saved(d: &mut [u8], m: Metadata)
 }
 
 // Metadata saved; 12 and 39 zero bytes for a count over 4,096.
+#[tactic(auto, unfolding(crate::specs::Saving::save_of))]
 pub fn save(m: Metadata) -> Saved
     ensures { Saves m result }
 {

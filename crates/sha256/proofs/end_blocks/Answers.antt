@@ -1,6 +1,6 @@
 -- `sha256::end_blocks` makes the end of the padded message: a copy and two stores into zeros, which stay 128 bytes.
 -- Assumes nothing.
-use Rattle.std.proofs.Common.{◌≡◌, ◌+◌, ◌*◌, length, sym, ap, ◌∙◌, arith, length-set}
+use Rattle.std.proofs.Common.{◌≡◌, length, sym, ap, ◌∙◌, arith, length-set}
 use Rattle.octets.proofs.NumberLaws.{length-be}
 use Rattle.octets.proofs.PatchLaws.{length-patch}
 use Rattle.octets.specs.Numbers.{be}
