@@ -1,14 +1,14 @@
--- What `sound` says, part by part: each return of the check is one of these, and what a sound buffer is known to have.
+-- What `sound` says, part by part: what a sound buffer is known to have.
 -- Assumes nothing.
 use Prim.Native.Nat.{ℕ, zero, suc, ◌+◌, ◌-◌, ◌≤◌, ◌<◌}
 use native.Mathlib.Omega.{arith}
 use mathlib.Core.Path.{◌≡◌, sym, ap, ◌∙◌}
 use mathlib.Core.Logic.{◌⊎◌, inl, inr}
-use mathlib.Core.Bool.{Bool, true, false, ◌&&◌}
+use mathlib.Core.Bool.{true, false, ◌&&◌}
 use mathlib.Core.List.{List}
 use lib.Dec.{eqb, leb}
 use lib.ListN.{length}
-use borrow.Author.Tests.{le-leb, lt-leb, eq-eqb, ne_eqb, leb-true, eqb-true}
+use borrow.Author.Tests.{le-leb, lt-leb, eq-eqb, leb-true, eqb-true}
 use Rattle.octets.specs.Numbers.{number_at}
 use Rattle.skiplist.specs.Limits.{most_blocks, most_height}
 use Rattle.skiplist.specs.Row.{AtMost}
@@ -16,52 +16,6 @@ use Rattle.skiplist.specs.Blocks.{row}
 use Rattle.skiplist.proofs.Cases.{order, both}
 use Rattle.archive.specs.Form.{image_version, length_place, length_bytes, header_bytes, rest_bytes, image_bytes}
 use Rattle.archive.specs.Reading.{count_of, height_at, blocks_from, held, low, framed, sound}
-
--- ---- the returns of `frame`
-module _ (b : List ℕ) where
-  pub too_short : length b < header_bytes → false ≡ framed b
-  unfolding framed
-  too_short h = rw (lt-leb header_bytes (length b) h)
-
-  module _ (long : header_bytes ≤ length b) where
-    pub other_version : (v : ℕ) → v ≡ number_at 1 b 0 → (v ≡ image_version → ⊥) → false ≡ framed b
-    unfolding framed
-    other_version v e h = rw (le-leb header_bytes (length b) long, ne_eqb (number_at 1 b 0) image_version (λ f. h (e ∙ f)))
-
-    module _ (v : ℕ) (ev : v ≡ number_at 1 b 0) (first : v ≡ image_version) (n r : ℕ) (en : n ≡ count_of b)
-        (er : r ≡ number_at length_bytes b length_place) where
-      version_is : eqb (number_at 1 b 0) image_version ≡ true
-      version_is = eq-eqb (number_at 1 b 0) image_version (sym ev ∙ first)
-
-      pub other_length : (r ≡ rest_bytes n → ⊥) → false ≡ framed b
-      unfolding framed
-      other_length h =
-          rw (
-            le-leb header_bytes (length b) long,
-            version_is,
-            ne_eqb (number_at length_bytes b length_place) (rest_bytes (count_of b)) (λ f. h (er ∙ f ∙ rw en)),
-          )
-
-      module _ (rest : r ≡ rest_bytes n) where
-        rest_is : eqb (number_at length_bytes b length_place) (rest_bytes (count_of b)) ≡ true
-        rest_is = eq-eqb (number_at length_bytes b length_place) (rest_bytes (count_of b)) (sym er ∙ rest ∙ rw en)
-
-        pub too_many : most_blocks < n → false ≡ framed b
-        unfolding framed
-        too_many h =
-            rw (le-leb header_bytes (length b) long, version_is, rest_is, lt-leb (count_of b) most_blocks (rw en at h))
-
-        pub last_test : (t : Bool) → n ≤ most_blocks → t ≡ leb (image_bytes n) (length b) → t ≡ framed b
-        unfolding framed
-        last_test t h e =
-            e ∙ rw (
-              le-leb header_bytes (length b) long,
-              version_is,
-              rest_is,
-              le-leb (count_of b) most_blocks
-                  (rw en at h),
-              en,
-            )
 
 -- ---- what a sound buffer has
 pub record Framed (b : List ℕ) : Type 0 where

@@ -1,17 +1,17 @@
 -- A command is admitted exactly where it is in range; the positions that it names are then in the row; and it repeats a tag in range
 -- exactly where it is Insert with the tag at its place, which is `Again`.
 -- Assumes nothing.
+use Rattle.std.specs.Prelude.{Ok}
 use Prim.Native.Nat.{ℕ, ◌≤◌}
 use native.Mathlib.Omega.{arith}
 use mathlib.Core.Path.{◌≡◌, refl}
-use mathlib.Core.Bool.{Bool, true, false}
-use mathlib.Core.List.{List}
-use lib.Dec.{ltb}
+use mathlib.Core.Bool.{Bool, true, false, ◌&&◌, cond}
+use mathlib.Core.List.{List, [], ◌∷◌}
+use lib.Dec.{eqb, ltb}
 use lib.ListN.{length}
 use borrow.Author.Tests.{lt-ltb, le-ltb, ne_eqb, ltb-true, ltb-false, eqb-false}
 use Rattle.octets.specs.Runs.{same}
 use Rattle.octets.proofs.RunLaws.{same-true, same_refl}
-use Rattle.refusals.specs.declared.Verdict.TheVariants.{Done}
 use Rattle.refusals.specs.Order.{verdict_of}
 use Rattle.refusals.proofs.OrderLaws.{done-none}
 use Rattle.skiplist.specs.Limits.{most_blocks, most_height}
@@ -32,7 +32,7 @@ pub record Admitted (k : Command) (n : ℕ) : Type 0 where
   pub low : inserts_of k.operation ≡ true → k.height ≤ most_height
   pub space : inserts_of k.operation ≡ true → n ≡ most_blocks → ⊥
 
-pub admitted_is : (k : Command) (n : ℕ) → verdict_of (admission_rules k n) ≡ Done → Admitted k n
+pub admitted_is : (k : Command) (n : ℕ) → verdict_of (admission_rules k n) ≡ Ok tt → Admitted k n
 admitted_is k n d =
     let e = done-none (admission_rules k n) d in
     let r = neither (ltb k.position (least_of k.operation)) (ltb n k.position) e.0 in
@@ -44,7 +44,7 @@ admitted_is k n d =
     }
 
 -- THE RANGE: neither 2 nor 3 nor 4
-pub admitted_range : (k : Command) (n : ℕ) → n ≤ most_blocks → verdict_of (admission_rules k n) ≡ Done
+pub admitted_range : (k : Command) (n : ℕ) → n ≤ most_blocks → verdict_of (admission_rules k n) ≡ Ok tt
     → InRange (meaning k) n
 admitted_range k n small d = go k.operation a.least a.low a.space
   where
@@ -59,7 +59,7 @@ admitted_range k n small d = go k.operation a.least a.low a.space
     go Delete l h s = (l, a.within)
 
 pub range_admitted : (o : Operation) (p h : ℕ) (t : List ℕ) (n : ℕ) → InRange (order_of o p h t) n
-    → verdict_of (admission_rules (record { operation = o; position = p; height = h; tag = t }) n) ≡ Done
+    → verdict_of (admission_rules (record { operation = o; position = p; height = h; tag = t }) n) ≡ Ok tt
 range_admitted Read p h t n r = rw (le-ltb p 1 r.0, le-ltb n p r.1)
 range_admitted Replace p h t n r = rw (le-ltb p 1 r.0, le-ltb n p r.1)
 range_admitted Delete p h t n r = rw (le-ltb p 1 r.0, le-ltb n p r.1)
@@ -90,7 +90,6 @@ spot_in_row Replace p h t n r = r.1
 spot_in_row Insert p h t n r = r.0
 spot_in_row Delete p h t n r = r.1
 
--- A REPEATED TAG
 pub repeats-true : (p : ℕ) (new there : List ℕ) → repeats_at p new there ≡ true → (1 ≤ p) × (new ≡ there)
 repeats-true p new there e =
     let b = both (ltb 0 p) (same new there) e in

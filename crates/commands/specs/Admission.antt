@@ -2,8 +2,7 @@
 -- Assumes nothing.
 use Rattle.std.specs.Prelude.{ℕ, Bool, true, false, ◌&&◌, ◌||◌, List, [], ◌∷◌, eqb, ltb}
 use Rattle.refusals.specs.declared.Refusal.TheVariants.{BadPosition, BadHeight, Full}
-use Rattle.refusals.specs.declared.Verdict.{Verdict}
-use Rattle.refusals.specs.Order.{Rule, ◌when◌, verdict_of}
+use Rattle.refusals.specs.Order.{Rule, ◌when◌, verdict_of, Verdict}
 use Rattle.skiplist.specs.Limits.{most_blocks, most_height}
 use Rattle.commands.specs.declared.Operation.{Operation}
 use Rattle.commands.specs.declared.Operation.TheVariants.{Read, Replace, Insert, Delete}

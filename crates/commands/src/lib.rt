@@ -4,18 +4,18 @@
 
 ghost use Rattle.std.specs.Prelude.{◌≡◌};
 ghost use Rattle.skiplist.specs.Commands.{repeats_at};
-ghost use Rattle.commands.specs.Admission.{least_of, inserts_of, insertable_of, admitted_of};
+ghost use Rattle.commands.specs.Admission.{least_of, insertable_of, admitted_of};
 
 use refusals::{Refusal, Verdict};
 
 // Count and root label.
-#[derive(Clone, Copy)]
+#[derive(Clone, Copy, Debug, PartialEq, Eq)]
 pub struct Metadata {
     pub count: u64,
     pub label: [u8; 32],
 }
 
-#[derive(Clone, Copy)]
+#[derive(Clone, Copy, Debug, PartialEq, Eq)]
 pub enum Operation {
     Read,
     Replace,
@@ -24,7 +24,8 @@ pub enum Operation {
 }
 
 // An operation at a position. The height is Insert's, the tag Replace's and Insert's; with the others they are not looked at.
-#[derive(Clone, Copy)]
+// One struct for the four, as C passes it.
+#[derive(Clone, Copy, Debug, PartialEq, Eq)]
 pub struct Command {
     pub operation: Operation,
     pub position: u64,
@@ -32,8 +33,9 @@ pub struct Command {
     pub tag: [u8; 32],
 }
 
-const MOST_BLOCKS: u64 = 4096;
+pub const MOST_BLOCKS: u64 = 4096;
 
+// A byte, as a command holds it; `archive` reads heights as numbers, and neither crate is above the other.
 const MOST_HEIGHT: u8 = 15;
 
 // The least position that an operation takes.
@@ -41,21 +43,8 @@ fn least(o: Operation) -> u64
     ensures { result ≡ least_of o }
 {
     match o {
-        Operation::Read => 1,
-        Operation::Replace => 1,
         Operation::Insert => 0,
-        Operation::Delete => 1,
-    }
-}
-
-fn inserts(o: Operation) -> bool
-    ensures { result ≡ inserts_of o }
-{
-    match o {
-        Operation::Read => false,
-        Operation::Replace => false,
-        Operation::Insert => true,
-        Operation::Delete => false,
+        Operation::Read | Operation::Replace | Operation::Delete => 1,
     }
 }
 
@@ -65,12 +54,12 @@ fn insertable(height: u8, n: u64) -> Verdict
     ensures { result ≡ insertable_of height n }
 {
     if MOST_HEIGHT < height {
-        return Verdict::Refused(Refusal::BadHeight);
+        Err(Refusal::BadHeight)
+    } else if n == MOST_BLOCKS {
+        Err(Refusal::Full)
+    } else {
+        Ok(())
     }
-    if n == MOST_BLOCKS {
-        return Verdict::Refused(Refusal::Full);
-    }
-    Verdict::Done
 }
 
 // Refusals 2, 3 and 4 of a command, for n blocks.
@@ -78,25 +67,18 @@ fn insertable(height: u8, n: u64) -> Verdict
 pub fn admitted(k: Command, n: u64) -> Verdict
     ensures { result ≡ admitted_of k n }
 {
-    let o = k.operation;
-    if k.position < least(o) {
-        return Verdict::Refused(Refusal::BadPosition);
+    if k.position < least(k.operation) || n < k.position {
+        Err(Refusal::BadPosition)
+    } else if k.operation == Operation::Insert {
+        insertable(k.height, n)
+    } else {
+        Ok(())
     }
-    if n < k.position {
-        return Verdict::Refused(Refusal::BadPosition);
-    }
-    if inserts(o) {
-        return insertable(k.height, n);
-    }
-    Verdict::Done
 }
 
 // Refusal 14 of Insert after p: is the new tag the one that stands at p? At position 0 there is none to repeat.
 pub fn repeated(p: u64, new: [u8; 32], there: [u8; 32]) -> bool
     ensures { result ≡ repeats_at p new there }
 {
-    if p < 1 {
-        return false;
-    }
-    octets::same32(new, there)
+    p >= 1 && new == there
 }

@@ -1,12 +1,12 @@
 -- Demand 1: the number by the law on verdicts, and what a refusal leaves by what is settled.
 -- Assumes nothing.
+use Rattle.std.specs.Prelude.{Ok, Err}
 use Prim.Native.Nat.{ℕ, ◌≤◌, ◌<◌}
 use mathlib.Core.Path.{◌≡◌, refl, ap, sym, ◌∙◌}
 use mathlib.Core.Logic.{◌⊎◌, inl, inr}
 use mathlib.Core.List.{List}
 use lib.ListN.{length}
 use Rattle.refusals.specs.declared.Refusal.{Refusal}
-use Rattle.refusals.specs.declared.Verdict.TheVariants.{Done, Refused}
 use Rattle.refusals.specs.Order.{verdict_of}
 use Rattle.sha256.specs.declared.Digested.{Digested}
 use Rattle.sha256.specs.Answer.{longest, digest_of}
@@ -28,13 +28,13 @@ use Rattle.demands.proofs.Laws.{refuses, refused-settled}
 use Rattle.demands.proofs.Placed.{digest_verdict, numbers_gateway, numbers_joint}
 
 -- a digest that is refused is 32 zero bytes
-digest-zeros : (m : List ℕ) (r : Refusal) → verdict_of (digest_rules m) ≡ Refused r → (digest_of m).bytes ≡ zeros
+digest-zeros : (m : List ℕ) (r : Refusal) → verdict_of (digest_rules m) ≡ Err r → (digest_of m).bytes ≡ zeros
 digest-zeros m r e = go (order longest (length m))
   where
     go : (longest < length m) ⊎ (length m ≤ longest) → (digest_of m).bytes ≡ zeros
     go (inl h) = ap (λ (x : Digested). x.bytes) (digest_refused m h)
     go (inr h) =
-        let z : Done ≡ Refused r = sym (ap (λ (x : Digested). x.verdict) (digest_done m h)) ∙ digest_verdict m ∙ e in
+        let z : Ok tt ≡ Err r = sym (ap (λ (x : Digested). x.verdict) (digest_done m h)) ∙ digest_verdict m ∙ e in
         never cc
 
 pub first_demand : FirstDemand

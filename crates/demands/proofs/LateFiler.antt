@@ -1,5 +1,6 @@
 -- The filer's theorems, a whole outage by one filing after another, and what the filer does not look at.
 -- Assumes nothing.
+use Rattle.std.specs.Prelude.{Ok, Err}
 use Prim.Native.Nat.{ℕ, ◌≤◌}
 use native.Mathlib.Omega.{arith}
 use mathlib.Core.Path.{◌≡◌, ap, ◌∙◌}
@@ -9,7 +10,6 @@ use lib.Dec.{ltb}
 use lib.ListN.{length}
 use borrow.Author.Tests.{le-ltb}
 use Rattle.refusals.specs.declared.Refusal.{Refusal}
-use Rattle.refusals.specs.declared.Verdict.TheVariants.{Done, Refused}
 use Rattle.refusals.proofs.OrderLaws.{cases}
 use Rattle.sha256.specs.Hash.{sha256}
 use Rattle.sha256.proofs.Hashes.{sha256-length}
@@ -30,13 +30,13 @@ use Rattle.demands.proofs.Laws.{refused-settled}
 
 -- the row that a filing leaves is within the limits again
 next : (m : Metadata) (q : Proposal) (first second : List ℕ) (bs : List Block) → WithinLimits bs
-    → held_side m ≡ metadata_of sha256 bs → (filed_of m q first second).verdict ≡ Done → WithinLimits (row_with q bs)
+    → held_side m ≡ metadata_of sha256 bs → (filed_of m q first second).verdict ≡ Ok tt → WithinLimits (row_with q bs)
 unfolding filed_of
 next m q first second bs l held done =
     let passing = done_passing m (insertion q) first [] (accepted m q first second done).inserted in
     edited-within (insertion q) bs l (in_row m (insertion q) first [] passing bs held) (sha256-length _)
 
-held_back : (m : Metadata) (q : Proposal) (first second : List ℕ) (why : Refusal) → (filed_of m q first second).verdict ≡ Refused why
+held_back : (m : Metadata) (q : Proposal) (first second : List ℕ) (why : Refusal) → (filed_of m q first second).verdict ≡ Err why
     → (filed_of m q first second).metadata ≡ m
 unfolding filed_of
 held_back m q first second why e = refused-settled _ why _ _ e
@@ -45,8 +45,8 @@ held_back m q first second why e = refused-settled _ why _ _ e
 step : (a : Attempt) (x : Archive) → InOrder x → Exception (a ∷ []) x ⊎ InOrder (attempted a x)
 step a x o = go (cases (filed_of x.held a.proposal a.first a.second).verdict)
   where
-    go : ((filed_of x.held a.proposal a.first a.second).verdict ≡ Done)
-        ⊎ ((why : Refusal) × ((filed_of x.held a.proposal a.first a.second).verdict ≡ Refused why))
+    go : ((filed_of x.held a.proposal a.first a.second).verdict ≡ Ok tt)
+        ⊎ ((why : Refusal) × ((filed_of x.held a.proposal a.first a.second).verdict ≡ Err why))
         → Exception (a ∷ []) x ⊎ InOrder (attempted a x)
     go (inr r) = inr (rw r.1 (record {
       limits = o.limits;

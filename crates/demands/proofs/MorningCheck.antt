@@ -1,5 +1,6 @@
 -- Ask 3: the joint proof's own theorems, and the store's and the gateway's, one after the other.
 -- Assumes nothing.
+use Rattle.std.specs.Prelude.{Ok}
 use Prim.Native.Nat.{ℕ}
 use native.Mathlib.Omega.{arith}
 use mathlib.Core.Path.{◌≡◌, refl, ap, ◌∙◌}
@@ -7,7 +8,6 @@ use mathlib.Core.List.{List, ◌++◌}
 use lib.ListN.{length}
 use Rattle.octets.specs.Runs.{patch}
 use Rattle.octets.proofs.PartLaws.{part-patch}
-use Rattle.refusals.specs.declared.Verdict.TheVariants.{Done}
 use Rattle.skiplist.specs.Blocks.{Block}
 use Rattle.commands.specs.Meaning.{held_side}
 use Rattle.archive.specs.Form.{image_of}
@@ -39,20 +39,20 @@ answers bs spare ps lent at k = record {
   accepted = ap (joint_of (check_of b).metadata ps) joint
       ∙ joint_honest (check_of b).metadata ps bs k.limits k.set k.inside k.short
       (ap (λ (x : Checked). held_side x.metadata) checked)
-      ∙ ap (λ (x : Checked). record { verdict = Done; number = length ps; tags = patch no_tags 0 (tags_at ps bs); metadata = x.metadata })
+      ∙ ap (λ (x : Checked). record { verdict = Ok tt; number = length ps; tags = patch no_tags 0 (tags_at ps bs); metadata = x.metadata })
       checked;
 }
   where
     b : List ℕ
     b = image_of bs ++ spare
 
-    checked : check_of b ≡ record { verdict = Done; metadata = held bs }
+    checked : check_of b ≡ record { verdict = Ok tt; metadata = held bs }
     checked = check_answers bs k.limits spare
 
     zero_entries : (jointstore.joint_of b ps (length lent) at).entries ≡ 0
     zero_entries = entries-zero b ps (length lent) at
 
-    a : ((jointstore.joint_of b ps (length lent) at).verdict ≡ Done)
+    a : ((jointstore.joint_of b ps (length lent) at).verdict ≡ Ok tt)
         × ((jointstore.joint_of b ps (length lent) at).length ≡ length (joint_for ps bs))
         × (jointstore.buffer_after b ps lent at ≡ patch lent at (joint_for ps bs))
     a = store.prove_row bs k.limits spare ps lent at (jointstore.joint_of b ps (length lent) at)

@@ -1,12 +1,12 @@
 -- Demand 2: the store's theorems on rows within the limits and the gateway's on honest proofs, one after the other.
 -- Assumes nothing.
+use Rattle.std.specs.Prelude.{Ok}
 use Prim.Native.Nat.{ℕ, ◌≤◌}
 use native.Mathlib.Omega.{arith}
 use mathlib.Core.Path.{◌≡◌, refl, sym, ap, ◌∙◌}
 use mathlib.Core.List.{List, ◌++◌}
 use lib.ListN.{length, length-map}
 use Rattle.octets.proofs.PartLaws.{part-patch}
-use Rattle.refusals.specs.declared.Verdict.TheVariants.{Done}
 use Rattle.sha256.specs.Hash.{sha256}
 use Rattle.sha256.proofs.Answers.{digest_done}
 use Rattle.skiplist.specs.Entry.{Place, map_entry}
@@ -39,7 +39,7 @@ use Rattle.demands.specs.SecondDemand.{SecondDemand}
 
 -- CHECK of a row's image
 pub check_answers : (bs : List Block) → WithinLimits bs → (spare : List ℕ)
-    → check_of (image_of bs ++ spare) ≡ record { verdict = Done; metadata = held bs }
+    → check_of (image_of bs ++ spare) ≡ record { verdict = Ok tt; metadata = held bs }
 check_answers bs l spare =
     let c = check_row bs l spare (check_of (image_of bs ++ spare)) (record { verdict = refl; metadata = refl }) in
     let n : (check_of (image_of bs ++ spare)).metadata.count ≡ (held bs).count = c.1 ∙ sym (metadata_count sha256 bs) in
@@ -83,7 +83,7 @@ serves bs spare k lent at lent' at' s other is = record {
   applied = λ i. record { verdict = applied.0 i; count = applied.1 i };
   edited_image = applied.2;
   metadata = ap check_of applied.2 ∙ check_answers after within spare_then
-      ∙ sym (ap (λ m. record { verdict = Done; metadata = m }) afresh);
+      ∙ sym (ap (λ m. record { verdict = Ok tt; metadata = m }) afresh);
   afresh = afresh;
 }
   where
@@ -96,7 +96,7 @@ serves bs spare k lent at lent' at' s other is = record {
     spare_then : List ℕ
     spare_then = spare_after (length bs) (length after) spare
 
-    checked : check_of image ≡ record { verdict = Done; metadata = held bs }
+    checked : check_of image ≡ record { verdict = Ok tt; metadata = held bs }
     checked = check_answers bs s.limits spare
 
     first : Proven bs image (first_at (meaning k)) lent at
@@ -113,7 +113,7 @@ serves bs spare k lent at lent' at' s other is = record {
         (ap (λ (x : Checked). held_side x.metadata) checked) first.proof s.first.few
         (λ q. (is q ∙ (second q).proof, (s.second q).few))
 
-    applied : ((apply_of image k).verdict ≡ Done) × ((apply_of image k).count ≡ length after)
+    applied : ((apply_of image k).verdict ≡ Ok tt) × ((apply_of image k).count ≡ length after)
         × (image_after image k ≡ image_of after ++ spare_then)
     applied = apply_row bs s.limits spare k (apply_of image k) (image_after image k) s.range s.tag s.anew s.image
         (record { verdict = refl; count = refl; image = refl })

@@ -1,11 +1,11 @@
 -- The new tags: what is answered, what a tag tells of a block, and what the gateway's answer tells of the block at a position.
 -- Assumes nothing.
+use Rattle.std.specs.Prelude.{Ok}
 use Prim.Native.Nat.{ℕ, ◌<◌}
 use mathlib.Core.Path.{◌≡◌, ◌∙◌}
 use mathlib.Core.Logic.{◌⊎◌, inl, inr}
 use mathlib.Core.Bool.{true}
 use mathlib.Core.List.{List}
-use Rattle.refusals.specs.declared.Verdict.TheVariants.{Done}
 use Rattle.sha256.specs.Hash.{sha256}
 use Rattle.skiplist.specs.Blocks.{Block, WithinLimits, tag_at}
 use Rattle.labels.specs.Tags.{tag_message, time_bound, match_of, BlockClash}
@@ -18,7 +18,7 @@ use Rattle.demands.proofs.ThirdDemand.{third_demand}
 
 shown : (bs : List Block) (k : Command) (first second : List ℕ) (t u : ℕ) (r s : List ℕ) → WithinLimits bs
     → t < time_bound → u < time_bound → tag_at k.position bs ≡ sha256 (tag_message u s)
-    → (gateway_of (held bs) k first second).verdict ≡ Done → (match_of (gateway_of (held bs) k first second).tag t r).yes ≡ true
+    → (gateway_of (held bs) k first second).verdict ≡ Ok tt → (match_of (gateway_of (held bs) k first second).tag t r).yes ≡ true
     → Collision bs k first second ⊎ (BlockClash t r u s ⊎ ((t ≡ u) × (r ≡ s)))
 shown bs k first second t u r s limits ht hu there said matched = go (third_demand.accepted bs k first second limits said)
   where

@@ -1,10 +1,9 @@
 -- ASK 3, the morning check: "one reply for a whole morning check". The form, spelling out and joining; the store's joint proof of a row's
 -- positions; and what the gateway makes of it.
 -- Assumes nothing.
-use Rattle.std.specs.Prelude.{ℕ, ◌+◌, ◌≤◌, ◌<◌, ◌≡◌, true, List, ◌∷◌, ◌++◌, length, get_or}
+use Rattle.std.specs.Prelude.{ℕ, ◌+◌, ◌≤◌, ◌<◌, ◌≡◌, true, List, ◌∷◌, ◌++◌, length, get_or, Ok}
 use Rattle.octets.specs.Numbers.{Bytes}
 use Rattle.octets.specs.Runs.{patch, part}
-use Rattle.refusals.specs.declared.Verdict.TheVariants.{Done}
 use Rattle.skiplist.specs.Blocks.{Block, WithinLimits}
 use Rattle.archive.specs.Form.{image_of}
 use Rattle.store.specs.Answers.{check_of}
@@ -38,14 +37,14 @@ module _ (bs : List Block) (spare ps lent : List ℕ) (at : ℕ) where
   pub record Answered : Type 0 where
     -- "the store's bytes are the one joint proof"
     pub answer : jointstore.joint_of image ps (length lent) at
-        ≡ record { verdict = Done; length = length (joint_for ps bs); entries = 0 }
+        ≡ record { verdict = Ok tt; length = length (joint_for ps bs); entries = 0 }
     pub buffer : jointstore.buffer_after image ps lent at ≡ patch lent at (joint_for ps bs)
     pub joint : sent ≡ joint_for ps bs
     -- spelled out it is "exactly the single proofs"
     pub spelled : (i : ℕ) → i < length ps → proof_at sent i ≡ the_proof bs (get_or ps i 0)
     -- the gateway, holding what check answers of the image, accepts it and reports every tag
     pub accepted : joint_of (check_of image).metadata ps sent
-        ≡ record { verdict = Done; number = length ps; tags = patch no_tags 0 (tags_at ps bs); metadata = held bs }
+        ≡ record { verdict = Ok tt; number = length ps; tags = patch no_tags 0 (tags_at ps bs); metadata = held bs }
 
 pub record MorningCheck : Type 0 where
   -- "A well-formed joint proof is accepted exactly when every spelled-out proof is"

@@ -5,9 +5,8 @@
 -- bytes written, apply, and check of the image that it leaves. Ask 4: "Demand 2's honest proofs are accepted except for this", a tag
 -- that comes again.
 -- Assumes nothing.
-use Rattle.std.specs.Prelude.{ℕ, ◌+◌, ◌≤◌, ◌≡◌, List, ◌++◌, length}
+use Rattle.std.specs.Prelude.{ℕ, ◌+◌, ◌≤◌, ◌≡◌, List, ◌++◌, length, Ok}
 use Rattle.octets.specs.Runs.{patch, part}
-use Rattle.refusals.specs.declared.Verdict.TheVariants.{Done}
 use Rattle.sha256.specs.Hash.{sha256}
 use Rattle.sha256.specs.Answer.{longest, digest_of}
 use Rattle.skiplist.specs.Label.{labelled}
@@ -43,7 +42,7 @@ pub record Room (bs : List Block) (p : ℕ) (lent : List ℕ) (at : ℕ) : Type 
 -- prove of p answers and leaves what document 01 fixes
 pub record Proven (bs : List Block) (b : List ℕ) (p : ℕ) (lent : List ℕ) (at : ℕ) : Type 0 where
   pub answer : prove_of b p (length lent) at
-      ≡ record { verdict = Done; length = proof_size (entry_count bs p); entries = entry_count bs p }
+      ≡ record { verdict = Ok tt; length = proof_size (entry_count bs p); entries = entry_count bs p }
   pub buffer : buffer_after b p lent at ≡ patch lent at (the_proof bs p)
   pub proof : part (buffer_after b p lent at) at (prove_of b p (length lent) at).length ≡ the_proof bs p
 
@@ -73,19 +72,19 @@ module _ (bs : List Block) (spare : List ℕ) (k : Command) (lent : List ℕ) (a
 
   pub record Served (other : List ℕ) : Type 0 where
     -- the gateway is given what check answers: the row's count and root label
-    pub checked : check_of image ≡ record { verdict = Done; metadata = held bs }
+    pub checked : check_of image ≡ record { verdict = Ok tt; metadata = held bs }
     -- "the store writes the one proof"
     pub first : Proven bs image (first_at (meaning k)) lent at
     pub second : k.operation ≡ Delete → Proven bs image k.position lent' at'
     -- "that proof is accepted by the gateway", and the tag at the position reported
-    pub accepted : (gateway_answers other).verdict ≡ Done
+    pub accepted : (gateway_answers other).verdict ≡ Ok tt
     pub tag : (gateway_answers other).tag ≡ tag_at k.position bs
     -- "leaves the one edited image"
-    pub applied : apply_of image k ≡ record { verdict = Done; count = length (edited (meaning k) bs) }
+    pub applied : apply_of image k ≡ record { verdict = Ok tt; count = length (edited (meaning k) bs) }
     pub edited_image : image_after image k
         ≡ image_of (edited (meaning k) bs) ++ spare_after (length bs) (length (edited (meaning k) bs)) spare
     -- check of it answers what the gateway worked out: the edited row's metadata, labelled afresh
-    pub metadata : check_of (image_after image k) ≡ record { verdict = Done; metadata = (gateway_answers other).metadata }
+    pub metadata : check_of (image_after image k) ≡ record { verdict = Ok tt; metadata = (gateway_answers other).metadata }
     pub afresh : (gateway_answers other).metadata ≡ held (edited (meaning k) bs)
 
   -- for Delete the other bytes are those of the second proof; with another command they are any
@@ -94,7 +93,7 @@ module _ (bs : List Block) (spare : List ℕ) (k : Command) (lent : List ℕ) (a
       → (k.operation ≡ Delete → other ≡ sent k.position lent' at') → Served other
 
 pub record SecondDemand : Type 0 where
-  pub digested : (m : List ℕ) → length m ≤ longest → digest_of m ≡ record { verdict = Done; bytes = sha256 m }
+  pub digested : (m : List ℕ) → length m ≤ longest → digest_of m ≡ record { verdict = Ok tt; bytes = sha256 m }
   pub served : (bs : List Block) (spare : List ℕ) (k : Command) (lent : List ℕ) (at : ℕ) (lent' : List ℕ) (at' : ℕ)
       → Serves bs spare k lent at lent' at'
   pub placed : Placed

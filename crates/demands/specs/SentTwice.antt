@@ -1,9 +1,8 @@
 -- ASK 4, the modem that repeats itself: "After a lost acknowledgement the outstation sends the same block again and we file it twice.
 -- Insert after p, p at least 1, is to be refused if the new tag equals the tag at p." Store and gateway refuse it with 14, and agree.
 -- Assumes nothing.
-use Rattle.std.specs.Prelude.{ℕ, ◌+◌, ◌≤◌, ◌<◌, ◌≡◌, ◌⊎◌, ◌↔◌, List, ◌++◌, length}
+use Rattle.std.specs.Prelude.{ℕ, ◌+◌, ◌≤◌, ◌<◌, ◌≡◌, ◌⊎◌, ◌↔◌, List, ◌++◌, length, Ok, Err}
 use Rattle.refusals.specs.declared.Refusal.TheVariants.{Repeated}
-use Rattle.refusals.specs.declared.Verdict.TheVariants.{Done, Refused}
 use Rattle.skiplist.specs.Limits.{most_blocks}
 use Rattle.skiplist.specs.Blocks.{Block, WithinLimits}
 use Rattle.skiplist.specs.Commands.{InRange, edited, first_at}
@@ -20,11 +19,11 @@ use Rattle.demands.specs.ThirdDemand.{held, Collision}
 
 -- apply of k to the row's image, whatever bytes follow it, gives 14
 abbrev pub StoreRefuses : List Block → List ℕ → Command → Type 0
-StoreRefuses bs spare k = (apply_of (image_of bs ++ spare) k).verdict ≡ Refused Repeated
+StoreRefuses bs spare k = (apply_of (image_of bs ++ spare) k).verdict ≡ Err Repeated
 
 -- the gateway, holding the row's metadata, gives 14 on these proofs
 abbrev pub GatewayRefuses : List Block → Command → List ℕ → List ℕ → Type 0
-GatewayRefuses bs k first second = (gateway_of (held bs) k first second).verdict ≡ Refused Repeated
+GatewayRefuses bs k first second = (gateway_of (held bs) k first second).verdict ≡ Err Repeated
 
 -- the honest proof; what rides along as the second is any bytes
 abbrev pub honest : List Block → Command → List ℕ
@@ -48,7 +47,7 @@ pub record SentTwice : Type 0 where
   pub refused : (bs : List Block) (k : Command) (first second : List ℕ) → WithinLimits bs → GatewayRefuses bs k first second
       → Collision bs k first second ⊎ Again bs k
   pub accepted : (bs : List Block) (k : Command) (first second : List ℕ) → WithinLimits bs
-      → (gateway_of (held bs) k first second).verdict ≡ Done → Collision bs k first second ⊎ (Again bs k → ⊥)
+      → (gateway_of (held bs) k first second).verdict ≡ Ok tt → Collision bs k first second ⊎ (Again bs k → ⊥)
   -- a block that was filed and is filed once more right after itself comes again
   pub filed_once_more : (bs : List Block) (k : Command) → k.operation ≡ Insert → InRange (meaning k) (length bs)
       → length bs + 1 < most_blocks → Again (edited (meaning k) bs) (once_more k)

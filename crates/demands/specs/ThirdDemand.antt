@@ -5,10 +5,9 @@
 -- the other in labelling the archive before the edit." And where the metadata belongs to an archive, "10 comes only
 -- with an equal-digest pair." The digest is SHA-256; the proofs are any bytes.
 -- Assumes nothing.
-use Rattle.std.specs.Prelude.{ℕ, ◌*◌, ◌<◌, ◌≡◌, ◌⊎◌, List, length, get_or}
+use Rattle.std.specs.Prelude.{ℕ, ◌*◌, ◌<◌, ◌≡◌, ◌⊎◌, List, length, get_or, Ok, Err}
 use Rattle.octets.specs.Runs.{part}
 use Rattle.refusals.specs.declared.Refusal.TheVariants.{NotNeighbours}
-use Rattle.refusals.specs.declared.Verdict.TheVariants.{Done, Refused}
 use Rattle.sha256.specs.Hash.{sha256}
 use Rattle.skiplist.specs.Limits.{digest_bytes}
 use Rattle.skiplist.specs.Messages.{tree_messages}
@@ -39,12 +38,12 @@ pub record Right (bs : List Block) (k : Command) (first second : List ℕ) : Typ
 
 pub record ThirdDemand : Type 0 where
   pub accepted : (bs : List Block) (k : Command) (first second : List ℕ) → WithinLimits bs
-      → (gateway_of (held bs) k first second).verdict ≡ Done → Collision bs k first second ⊎ Right bs k first second
+      → (gateway_of (held bs) k first second).verdict ≡ Ok tt → Collision bs k first second ⊎ Right bs k first second
   pub neighbours : (bs : List Block) (k : Command) (first second : List ℕ) → WithinLimits bs
-      → (gateway_of (held bs) k first second).verdict ≡ Refused NotNeighbours → Collision bs k first second
+      → (gateway_of (held bs) k first second).verdict ≡ Err NotNeighbours → Collision bs k first second
   -- ask 3, "demand 3 holds for each tag, stated once over the number of positions": the i-th tag is the one at the i-th position; the
   -- metadata stays
-  pub joint : (bs : List Block) (ps s : List ℕ) → WithinLimits bs → (joint_of (held bs) ps s).verdict ≡ Done → (i : ℕ) → i < length ps
+  pub joint : (bs : List Block) (ps s : List ℕ) → WithinLimits bs → (joint_of (held bs) ps s).verdict ≡ Ok tt → (i : ℕ) → i < length ps
       → JointClash (held bs) ps s bs
       ⊎ (part (joint_of (held bs) ps s).tags (digest_bytes * i) digest_bytes ≡ tag_at (get_or ps i 0) bs)
   pub joint_metadata : (bs : List Block) (ps s : List ℕ) → (joint_of (held bs) ps s).metadata ≡ held bs

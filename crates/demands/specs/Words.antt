@@ -1,12 +1,10 @@
 -- The words that the demands are said in: a verdict's number among some, what a refusal leaves, a refusal exactly where
 -- its rule puts it, and a pledge that settles its outcome.
 -- Assumes nothing.
-use Rattle.std.specs.Prelude.{ℕ, zero, suc, ◌≡◌, ◌⊎◌, List, [], ◌∷◌, map}
+use Rattle.std.specs.Prelude.{ℕ, zero, suc, ◌≡◌, ◌⊎◌, List, [], ◌∷◌, map, Ok, Err}
 use Rattle.refusals.specs.declared.Refusal.{Refusal}
-use Rattle.refusals.specs.declared.Verdict.{Verdict}
-use Rattle.refusals.specs.declared.Verdict.TheVariants.{Done, Refused}
 use Rattle.refusals.specs.Numbers.{number_of, verdict_number, proof_of}
-use Rattle.refusals.specs.Order.{Rule, FirstDue, NoneDue}
+use Rattle.refusals.specs.Order.{Rule, FirstDue, NoneDue, Verdict}
 use Rattle.commands.specs.declared.Operation.{Operation}
 use Rattle.commands.specs.declared.Operation.TheVariants.{Read, Replace, Insert, Delete}
 
@@ -71,16 +69,16 @@ joint_places n = 0 ∷ 0 ∷ 0 ∷ 0 ∷ places_from 1 n
 -- nothing is refused (0) or one of the numbers is given; and where it is, Back holds
 pub record Refuses (v : Verdict) (ns : List ℕ) (Back : Type 0) : Type 0 where
   pub number : Among (verdict_number v) (0 ∷ ns)
-  pub back : (r : Refusal) → v ≡ Refused r → Back
+  pub back : (r : Refusal) → v ≡ Err r → Back
 
 -- the rules give these numbers in this order; a refusal is given exactly where its rule is the first that is due; and
 -- the call is done exactly where none is
 pub record Exactly (v : Verdict) (rs : List Rule) (ns : List ℕ) : Type 0 where
   pub order : numbers rs ≡ ns
-  pub only_where : (r : Refusal) → v ≡ Refused r → FirstDue r rs
-  pub where_due : (r : Refusal) → FirstDue r rs → v ≡ Refused r
-  pub done_only : v ≡ Done → NoneDue rs
-  pub done_where : NoneDue rs → v ≡ Done
+  pub only_where : (r : Refusal) → v ≡ Err r → FirstDue r rs
+  pub where_due : (r : Refusal) → FirstDue r rs → v ≡ Err r
+  pub done_only : v ≡ Ok tt → NoneDue rs
+  pub done_where : NoneDue rs → v ≡ Ok tt
 
 -- two outcomes that satisfy the pledge are equal
 abbrev pub Unique : {R : Type 0} → (R → Type 0) → Type 0

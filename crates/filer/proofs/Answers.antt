@@ -1,27 +1,26 @@
 -- The filer's answer, part by part: a neighbour that is needed, a proof's finding against its rules, and a refusal and an acceptance against
 -- the whole list.
 -- Assumes nothing.
-use Prim.Native.Nat.{ℕ, ◌+◌, ◌≤◌, ◌<◌}
+use Rattle.std.specs.Prelude.{Ok, Err}
+use Prim.Native.Nat.{ℕ, ◌+◌, ◌<◌}
 use mathlib.Core.Path.{◌≡◌, sym, ap, ◌∙◌}
 use mathlib.Core.Logic.{◌⊎◌, inl, inr}
 use mathlib.Core.Bool.{Bool, true, false, not, ◌&&◌}
 use mathlib.Core.List.{List, [], ◌++◌}
-use lib.Dec.{ltb, leb}
+use lib.Dec.{ltb}
 use lib.ListN.{length}
-use borrow.Author.Tests.{lt-ltb, le-ltb, le-leb, lt-leb, ltb-true, ltb-false}
+use borrow.Author.Tests.{lt-ltb, ltb-true, ltb-false}
 use Rattle.octets.specs.Runs.{same}
 use Rattle.refusals.specs.declared.Which.{Which}
 use Rattle.refusals.specs.declared.Which.TheVariants.{First, Second}
 use Rattle.refusals.specs.declared.Refusal.{Refusal}
-use Rattle.refusals.specs.declared.Refusal.TheVariants.{LongMessage, Repeated, OutOfTime, WrongBlock}
-use Rattle.refusals.specs.declared.Verdict.{Verdict}
-use Rattle.refusals.specs.declared.Verdict.TheVariants.{Done, Refused}
-use Rattle.refusals.specs.Order.{Rule, verdict_of}
+use Rattle.refusals.specs.declared.Refusal.TheVariants.{LongMessage, Repeated}
+use Rattle.refusals.specs.Order.{Rule, verdict_of, Verdict}
 use Rattle.refusals.proofs.OrderLaws.{cases, verdict-append, verdict_first}
 use Rattle.sha256.specs.Hash.{sha256}
 use Rattle.skiplist.specs.Blocks.{shown}
 use Rattle.skiplist.specs.Commands.{repeats_at}
-use Rattle.skiplist.proofs.Cases.{order, neither}
+use Rattle.skiplist.proofs.Cases.{neither}
 use Rattle.commands.specs.declared.Metadata.{Metadata}
 use Rattle.labels.specs.declared.Tagged.{Tagged}
 use Rattle.labels.specs.declared.Matched.{Matched}
@@ -34,39 +33,17 @@ use Rattle.gateway.specs.Gateway.{opening_rules, inserted_of, accepted_of}
 use Rattle.gateway.specs.Working.{finding_of, blamed, refused_of}
 use Rattle.gateway.proofs.Answers.{rules_refused, rules_done, answered-refused, answered-done}
 use Rattle.gateway.proofs.Demands.{rules_found}
-use Rattle.filer.specs.Filing.{Timed, Proposal, tag_for, insertion, either, is_long, long_of, second_rules, matched, wrong_of}
-use Rattle.filer.specs.Filing.{untimely, neighbour_rules, filed_of}
+use Rattle.filer.specs.Filing.{Timed, Proposal, tag_for, insertion, either, is_long, long_of, second_rules, matched}
+use Rattle.filer.specs.Filing.{neighbour_rules, filed_of}
 use Rattle.filer.specs.Filing.{timed}
 use Rattle.filer.specs.Working.{Shown, after_first, worked_of}
 
 -- A NEIGHBOUR THAT IS NEEDED
-module _ (p n : ℕ) (l r : Bool) {x : Bool} (ex : x ≡ ltb 0 p && l) where
-  pub left_fails : x ≡ true → true ≡ either p n l r
-  left_fails t = sym (rw (sym ex ∙ t))
-
-  pub right_decides : {y : Bool} → x ≡ false → y ≡ ltb p n && r → y ≡ either p n l r
-  right_decides t ey = ey ∙ sym (rw (sym ex ∙ t))
-
 pub left_holds : (p n : ℕ) (l r : Bool) → either p n l r ≡ false → 0 < p → l ≡ false
 left_holds p n l r e h = let x = (neither (ltb 0 p && l) (ltb p n && r) e).0 in rw (lt-ltb 0 p h) at x
 
 pub right_holds : (p n : ℕ) (l r : Bool) → either p n l r ≡ false → p < n → r ≡ false
 right_holds p n l r e h = let x = (neither (ltb 0 p && l) (ltb p n && r) e).1 in rw (lt-ltb p n h) at x
-
--- the code's comparisons
-pub before_not : (a b : ℕ) → ltb a b ≡ not (leb b a)
-before_not a b = go (order a b)
-  where
-    go : (a < b) ⊎ (b ≤ a) → ltb a b ≡ not (leb b a)
-    go (inl h) = lt-ltb a b h ∙ sym (rw (lt-leb b a h))
-    go (inr h) = le-ltb a b h ∙ sym (rw (le-leb b a h))
-
-pub not_before : (a b : ℕ) → leb a b ≡ not (ltb b a)
-not_before a b = go (order b a)
-  where
-    go : (b < a) ⊎ (a ≤ b) → leb a b ≡ not (ltb b a)
-    go (inl h) = lt-leb a b h ∙ sym (rw (lt-ltb b a h))
-    go (inr h) = le-leb a b h ∙ sym (rw (le-ltb b a h))
 
 -- BLOCKS AND TAGS
 pub tag_is : (time : ℕ) (readings : List ℕ) (t : Tagged) → is_long readings ≡ false → Tags time readings t
@@ -85,7 +62,7 @@ unmatched_is needed time readings s tag x e can et p =
 pub finding-verdict : (w : Which) (s : List ℕ) (p : ℕ) (m : Metadata) → blamed w (finding_of s p m) ≡ verdict_of (proof_rules w s p m)
 finding-verdict w s p m = go (cases (blamed w (finding_of s p m)))
   where
-    go : (blamed w (finding_of s p m) ≡ Done) ⊎ ((r : Refusal) × (blamed w (finding_of s p m) ≡ Refused r))
+    go : (blamed w (finding_of s p m) ≡ Ok tt) ⊎ ((r : Refusal) × (blamed w (finding_of s p m) ≡ Err r))
         → blamed w (finding_of s p m) ≡ verdict_of (proof_rules w s p m)
     go (inl d) = d ∙ sym (rules_done w s p m [] d).0
     go (inr r) = r.1 ∙ sym (rules_refused w s p m [] r.1)
@@ -94,27 +71,12 @@ module _ (m : Metadata) (p : ℕ) (s : List ℕ) where
   pub second_looked : {v : Verdict} → p < m.count → v ≡ blamed Second (finding_of s (p + 1) m) → v ≡ verdict_of (second_rules m p s)
   second_looked h e = e ∙ finding-verdict Second s (p + 1) m ∙ sym (rw (lt-ltb p m.count h))
 
-  pub second_missing : m.count ≤ p → Done ≡ verdict_of (second_rules m p s)
-  second_missing h = sym (rw (le-ltb p m.count h))
-
-  pub second-sized : verdict_of (second_rules m p s) ≡ Done → p < m.count → Sized s
+  pub second-sized : verdict_of (second_rules m p s) ≡ Ok tt → p < m.count → Sized s
   second-sized e h = form_sized s (rules_found Second s (p + 1) m (rw (lt-ltb p m.count h) at e)).formed
-
--- 16 AND 15
-module _ (p n t : ℕ) (left right : Timed) (first second : List ℕ) {w : Bool} (ew : w ≡ wrong_of p n left right first second) where
-  pub blocks_wrong : w ≡ true → Refused WrongBlock ≡ verdict_of (neighbour_rules p n t left right first second)
-  blocks_wrong e = sym (rw (sym ew ∙ e))
-
-  module _ (right_ones : w ≡ false) {u : Bool} (eu : u ≡ untimely p n t left.time right.time) where
-    pub times_wrong : u ≡ true → Refused OutOfTime ≡ verdict_of (neighbour_rules p n t left right first second)
-    times_wrong e = sym (rw (sym ew ∙ right_ones, sym eu ∙ e))
-
-    pub neighbours_fine : u ≡ false → Done ≡ verdict_of (neighbour_rules p n t left right first second)
-    neighbours_fine e = sym (rw (sym ew ∙ right_ones, sym eu ∙ e))
 
 -- AFTER THE FIRST PROOF
 pub both_shown : (m : Metadata) (p : ℕ) (left right first second : List ℕ) → Sized first
-    → either p m.count (is_long left) (is_long right) ≡ false → verdict_of (second_rules m p second) ≡ Done
+    → either p m.count (is_long left) (is_long right) ≡ false → verdict_of (second_rules m p second) ≡ Ok tt
     → Shown (ltb 0 p) left first × Shown (ltb p m.count) right second
 both_shown m p left right first second sized short done = (
   λ e. (
@@ -130,19 +92,19 @@ both_shown m p left right first second sized short done = (
 
 module _ (m : Metadata) (p t : ℕ) (tag : List ℕ) (left right : Timed) (first second : List ℕ) {x : Bool}
     (ex : x ≡ repeats_at p tag (shown (place_of first).item)) where
-  pub comes_again : x ≡ true → Refused Repeated ≡ verdict_of (after_first m p t tag left right first second)
+  pub comes_again : x ≡ true → Err Repeated ≡ verdict_of (after_first m p t tag left right first second)
   comes_again e = sym (rw (sym ex ∙ e))
 
   module _ (anew : x ≡ false) {v : Verdict} (ev : v ≡ verdict_of (second_rules m p second)) where
     rest : List Rule
     rest = neighbour_rules p m.count t left right first second
 
-    pub second-refused : {why : Refusal} → v ≡ Refused why
-        → Refused why ≡ verdict_of (after_first m p t tag left right first second)
+    pub second-refused : {why : Refusal} → v ≡ Err why
+        → Err why ≡ verdict_of (after_first m p t tag left right first second)
     unfolding rest
     second-refused {why} e = sym (rw (sym ex ∙ anew) (verdict_first (second_rules m p second) rest why (sym ev ∙ e)))
 
-    pub second_passed : {n : Verdict} → v ≡ Done → n ≡ verdict_of (neighbour_rules p m.count t left right first second)
+    pub second_passed : {n : Verdict} → v ≡ Ok tt → n ≡ verdict_of (neighbour_rules p m.count t left right first second)
         → n ≡ verdict_of (after_first m p t tag left right first second)
     unfolding rest
     second_passed e en = en ∙ sym (rw (sym ex ∙ anew) (verdict-append (second_rules m p second) rest (sym ev ∙ e)))
@@ -153,26 +115,26 @@ module _ (m : Metadata) (q : Proposal) (first second : List ℕ) {v : Verdict}
   abbrev after : List Rule
   after = after_first m q.position q.new.time (tag_for q.new) q.left q.right first second
 
-  pub first-refused : {why : Refusal} → v ≡ Refused why → refused_of m why ≡ worked_of m q first second
+  pub first-refused : {why : Refusal} → v ≡ Err why → refused_of m why ≡ worked_of m q first second
   unfolding worked_of
   first-refused {why} e =
       answered-refused (verdict_of (proof_rules First first q.position m ++ after)) why (shown (place_of first).item)
       (inserted_of q.height (tag_for q.new) first) m (rules_refused First first q.position m after (sym ev ∙ e))
 
-  module _ (passed : v ≡ Done) {tag : List ℕ} (et : tag ≡ tag_for q.new) {w : Verdict}
+  module _ (passed : v ≡ Ok tt) {tag : List ℕ} (et : tag ≡ tag_for q.new) {w : Verdict}
       (ew : w ≡ verdict_of (after_first m q.position q.new.time tag q.left q.right first second)) where
     whole : w ≡ verdict_of (proof_rules First first q.position m ++ after)
     whole =
         ew ∙ ap (λ (t : List ℕ). verdict_of (after_first m q.position q.new.time t q.left q.right first second)) et
         ∙ sym (rules_done First first q.position m after (sym ev ∙ passed)).0
 
-    pub later_refused : {why : Refusal} → w ≡ Refused why → refused_of m why ≡ worked_of m q first second
+    pub later_refused : {why : Refusal} → w ≡ Err why → refused_of m why ≡ worked_of m q first second
     unfolding worked_of
     later_refused {why} e =
         answered-refused (verdict_of (proof_rules First first q.position m ++ after)) why (shown (place_of first).item)
         (inserted_of q.height (tag_for q.new) first) m (sym whole ∙ e)
 
-    pub all_passed : w ≡ Done → accepted_of (shown (place_of first).item) (inserted_of q.height tag first)
+    pub all_passed : w ≡ Ok tt → accepted_of (shown (place_of first).item) (inserted_of q.height tag first)
         ≡ worked_of m q first second
     unfolding worked_of
     all_passed e =
@@ -192,12 +154,12 @@ module _ (m : Metadata) (q : Proposal) (first second : List ℕ) {x : Bool}
         proof_rules First first q.position m
         ++ after_first m q.position q.new.time (tag_for q.new) q.left q.right first second
 
-    pub opening-refused : {why : Refusal} → v ≡ Refused why → refused_of m why ≡ filed_of m q first second
+    pub opening-refused : {why : Refusal} → v ≡ Err why → refused_of m why ≡ filed_of m q first second
     unfolding filed_of
     opening-refused {why} e =
         sym (rw (sym ex ∙ short, verdict_first (opening_rules m (insertion q)) after_opening why (sym ev ∙ e)))
 
-    pub opening-worked : v ≡ Done → worked_of m q first second ≡ filed_of m q first second
+    pub opening-worked : v ≡ Ok tt → worked_of m q first second ≡ filed_of m q first second
     unfolding filed_of worked_of
     opening-worked e = sym (rw (sym ex ∙ short, verdict-append (opening_rules m (insertion q)) after_opening (sym ev ∙ e)))
 

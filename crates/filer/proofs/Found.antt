@@ -1,6 +1,7 @@
 -- THE PLACE THAT THE STORE FINDS IS ACCEPTED: the gateway's checks pass on honest proofs, the blocks shown are those whose tags stand there,
 -- and their times are those around the place.
 -- Assumes nothing.
+use Rattle.std.specs.Prelude.{Ok}
 use Prim.Native.Nat.{ℕ, zero, suc, ◌+◌, ◌≤◌, ◌<◌}
 use native.Mathlib.Omega.{arith}
 use mathlib.Core.Path.{◌≡◌, refl, sym, ap, ◌∙◌}
@@ -12,7 +13,6 @@ use lib.ListN.{length, get_or, length-map}
 use borrow.Author.Tests.{lt-ltb, le-ltb, le-leb}
 use Rattle.octets.proofs.RunLaws.{same_refl}
 use Rattle.refusals.specs.declared.Which.TheVariants.{Second}
-use Rattle.refusals.specs.declared.Verdict.TheVariants.{Done}
 use Rattle.refusals.specs.Order.{verdict_of}
 use Rattle.refusals.proofs.OrderLaws.{verdict-append}
 use Rattle.sha256.specs.Hash.{sha256}
@@ -77,7 +77,7 @@ module _ (m : Metadata) (q : Proposal) (first second : List ℕ) (bs : List Bloc
       (metadata_of_side (metadata_of sha256 (row_with q bs)))
   inserted = honest_accepted m (insertion q) first [] bs l range anew held h.proof few (λ e. never cc)
 
-  insert_done : verdict_of (gateway_rules m (insertion q) first []) ≡ Done
+  insert_done : verdict_of (gateway_rules m (insertion q) first []) ≡ Ok tt
   unfolding gateway_of
   insert_done = ap (λ (r : Answer). r.verdict) inserted
 
@@ -98,16 +98,16 @@ module _ (m : Metadata) (q : Proposal) (first second : List ℕ) (bs : List Bloc
         let e : q.position + 1 ≡ suc q.position = omega arith in
         honest_tag next second bs l (omega (arith, k), low, space) (h.next_proof k) (few_next k) refl ∙ ap (λ i. tag_at i bs) e
 
-    second_fine : verdict_of (second_rules m q.position second) ≡ Done
+    second_fine : verdict_of (second_rules m q.position second) ≡ Ok tt
     second_fine =
         let c : q.position < m.count = omega (arith, count, k) in
         rw (lt-ltb q.position m.count c, h.next_proof k)
         (found_rules Second _ (q.position + 1) m (way_fine (q.position + 1) bs l (omega (arith, k)) (few_next k) m held))
 
-  second-done : verdict_of (second_rules m q.position second) ≡ Done
+  second-done : verdict_of (second_rules m q.position second) ≡ Ok tt
   second-done = go (order q.position (length bs))
     where
-      go : (q.position < length bs) ⊎ (length bs ≤ q.position) → verdict_of (second_rules m q.position second) ≡ Done
+      go : (q.position < length bs) ⊎ (length bs ≤ q.position) → verdict_of (second_rules m q.position second) ≡ Ok tt
       go (inl k) = second_fine k
       go (inr k) = rw (le-ltb q.position m.count (omega (arith, count, k)))
 
@@ -150,7 +150,7 @@ module _ (m : Metadata) (q : Proposal) (first second : List ℕ) (bs : List Bloc
       ap (λ (x : Timed). x.time) (h.right (right_in k)) ∙ sym (time_after q.position xs) in
       rw (lt-ltb q.new.time q.right.time (omega (arith, t, fits.right (omega (arith, times, right_in k))))))
 
-  done : verdict_of (filing_rules m q first second) ≡ Done
+  done : verdict_of (filing_rules m q first second) ≡ Ok tt
   done =
       let rest = neighbour_rules q.position m.count q.new.time q.left q.right first second in
       rw not_long
@@ -159,7 +159,7 @@ module _ (m : Metadata) (q : Proposal) (first second : List ℕ) (bs : List Bloc
 
   found : filed_of m q first second ≡ accepted_of (tag_at q.position bs) (metadata_of_side (metadata_of sha256 (row_with q bs)))
   unfolding filed_of
-  found = rw done (λ i. record { verdict = Done; tag = first-tag i; metadata = new-metadata i })
+  found = rw done (λ i. record { verdict = Ok tt; tag = first-tag i; metadata = new-metadata i })
 
 pub honest_shown : HonestShown
 honest_shown h new bs xs = record {

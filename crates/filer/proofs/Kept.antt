@@ -1,6 +1,7 @@
 -- TIMES ARE KEPT: both proofs are proofs of demand 3, Insert's and a Read's of the place after; so each neighbour's tag is that of the block
 -- which stands there. Where its time is another, two blocks share a tag; else the place is the only one for the new time.
 -- Assumes nothing.
+use Rattle.std.specs.Prelude.{Ok}
 use Prim.Native.Nat.{ℕ, zero, suc, ◌+◌, ◌≤◌, ◌<◌}
 use native.Mathlib.Omega.{arith}
 use native.Mathlib.Decide.{ℕ_discrete}
@@ -14,7 +15,6 @@ use lib.ListN.{length, get_or, length-map}
 use borrow.Author.Tests.{lt-ltb, le-ltb, leb-true, ltb-true, not-false}
 use Rattle.octets.proofs.RunLaws.{same-true}
 use Rattle.refusals.specs.declared.Which.TheVariants.{Second}
-use Rattle.refusals.specs.declared.Verdict.TheVariants.{Done}
 use Rattle.refusals.specs.Order.{verdict_of}
 use Rattle.refusals.proofs.OrderLaws.{append-done, done-none}
 use Rattle.sha256.specs.Hash.{sha256}
@@ -47,18 +47,18 @@ use Rattle.filer.proofs.Standing.{stand-length, stand-tag, stand-put, block_in, 
 -- WHAT AN ACCEPTED FILING PASSED
 pub record Accepted (m : Metadata) (q : Proposal) (first second : List ℕ) : Type 0 where
   pub short : long_of q.position m.count q.new.readings q.left.readings q.right.readings ≡ false
-  pub inserted : verdict_of (gateway_rules m (insertion q) first []) ≡ Done
-  pub followed : verdict_of (second_rules m q.position second) ≡ Done
+  pub inserted : verdict_of (gateway_rules m (insertion q) first []) ≡ Ok tt
+  pub followed : verdict_of (second_rules m q.position second) ≡ Ok tt
   pub right_blocks : wrong_of q.position m.count q.left q.right first second ≡ false
   pub in_time : untimely q.position m.count q.new.time q.left.time q.right.time ≡ false
 
-pub accepted : (m : Metadata) (q : Proposal) (first second : List ℕ) → verdict_of (filing_rules m q first second) ≡ Done
+pub accepted : (m : Metadata) (q : Proposal) (first second : List ℕ) → verdict_of (filing_rules m q first second) ≡ Ok tt
     → Accepted m q first second
 accepted m q first second done =
     let l = (done-none (filing_rules m q first second) done).0 in
     let nb = neighbour_rules q.position m.count q.new.time q.left q.right first second in
     let rest = gateway_rules m (insertion q) first [] ++ (second_rules m q.position second ++ nb) in
-    let tail : verdict_of rest ≡ Done = rw l at done in
+    let tail : verdict_of rest ≡ Ok tt = rw l at done in
     let g = append-done (gateway_rules m (insertion q) first []) (second_rules m q.position second ++ nb) tail in
     let s = append-done (second_rules m q.position second) nb g.1 in
     let n = done-none nb s.1 in
@@ -76,7 +76,7 @@ module _ (m : Metadata) (q : Proposal) (first second : List ℕ) (a : Accepted m
   first_hashed w i = rw a.short (Memᴰ.append_left _ i)
 
   module _ (h : q.position < m.count) where
-    opening : verdict_of (opening_rules m (reading (q.position + 1))) ≡ Done
+    opening : verdict_of (opening_rules m (reading (q.position + 1))) ≡ Ok tt
     opening =
         let small = opening_count m (insertion q) inserting.opening in
         rw (le-ltb 4096 m.count small)
@@ -182,7 +182,7 @@ module _ (m : Metadata) (q : Proposal) (first second : List ℕ) (a : Accepted m
 -- ALL OF IT
 module _ (m : Metadata) (q : Proposal) (first second : List ℕ) (bs : List Block) (xs : List Timed) (l : WithinLimits bs)
     (held : held_side m ≡ metadata_of sha256 bs) (stand : Stand xs bs) (rise : NeverFall (times_of xs))
-    (done : verdict_of (filing_rules m q first second) ≡ Done) where
+    (done : verdict_of (filing_rules m q first second) ≡ Ok tt) where
   a : Accepted m q first second
   a = accepted m q first second done
 

@@ -2,8 +2,7 @@
 -- in demand 3, or a block sent and a different one in the archive share a tag." And the way back: the place that the store finds from its
 -- own times is accepted.
 -- Assumes nothing.
-use Rattle.std.specs.Prelude.{ℕ, suc, ◌+◌, ◌-◌, ◌≤◌, ◌<◌, ◌≡◌, ◌⊎◌, cond, List, [], ◌++◌, ltb, length}
-use Rattle.refusals.specs.declared.Verdict.TheVariants.{Done}
+use Rattle.std.specs.Prelude.{ℕ, suc, ◌+◌, ◌-◌, ◌≤◌, ◌<◌, ◌≡◌, ◌⊎◌, cond, List, [], ◌++◌, ltb, length, Ok}
 use Rattle.refusals.specs.Order.{verdict_of, settled}
 use Rattle.sha256.specs.Hash.{sha256}
 use Rattle.skiplist.specs.Limits.{most_blocks, most_height}
@@ -53,7 +52,7 @@ pub record Filed (m : Metadata) (q : Proposal) (first second : List ℕ) (bs : L
 abbrev pub TimesKept : Type 0
 TimesKept = (m : Metadata) (q : Proposal) (first second : List ℕ) (bs : List Block) (xs : List Timed) → WithinLimits bs
     → held_side m ≡ metadata_of sha256 bs → Stand xs bs → NeverFall (times_of xs)
-    → (filed_of m q first second).verdict ≡ Done
+    → (filed_of m q first second).verdict ≡ Ok tt
     → Clash sha256 (filing_messages m q first second) (tree_messages sha256 (root bs))
     ⊎ (SharedTag (needed q (length bs)) xs ⊎ Filed m q first second bs xs)
 

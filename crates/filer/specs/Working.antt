@@ -1,7 +1,8 @@
 -- What the filer's private functions answer, on the way to `filed_of`: the command, and the answer from the first proof on.
 -- Assumes nothing.
-use Rattle.std.specs.Prelude.{ℕ, ◌≤◌, ◌≡◌, Bool, true, List, [], ◌++◌, length}
+use Rattle.std.specs.Prelude.{ℕ, ◌≤◌, ◌≡◌, Bool, true, List, [], ◌++◌, length, Result, Ok, Err}
 use Rattle.refusals.specs.declared.Which.TheVariants.{First}
+use Rattle.refusals.specs.declared.Refusal.{Refusal}
 use Rattle.refusals.specs.Order.{Rule, verdict_of}
 use Rattle.skiplist.specs.Blocks.{shown}
 use Rattle.commands.specs.declared.Metadata.{Metadata}
@@ -11,6 +12,7 @@ use Rattle.labels.specs.Tags.{most_readings}
 use Rattle.proofbytes.specs.Reading.{Sized, place_of}
 use Rattle.gateway.specs.declared.Answer.{Answer}
 use Rattle.gateway.specs.Checking.{proof_rules}
+use Rattle.gateway.specs.Working.{refused_of}
 use Rattle.gateway.specs.Gateway.{later_rules, inserted_of, answered}
 use Rattle.filer.specs.declared.Filing as code
 use Rattle.filer.specs.Filing.{Timed, Proposal, tag_for, second_rules, neighbour_rules}
@@ -27,6 +29,11 @@ Shown needed readings s = needed ≡ true → (length readings ≤ most_readings
 abbrev pub after_first : Metadata → ℕ → ℕ → List ℕ → Timed → Timed → List ℕ → List ℕ → List Rule
 after_first m p new tag left right first second =
     later_rules Insert m p tag first [] ++ (second_rules m p second ++ neighbour_rules p m.count new left right first second)
+
+-- what the filer answers by what a function hands on: Insert's answer, or a refusal
+abbrev pub answer_with : Metadata → Result Answer Refusal → Answer
+answer_with m (Ok a) = a
+answer_with m (Err why) = refused_of m why
 
 -- from the first proof on
 unfoldable pub worked_of : Metadata → Proposal → List ℕ → List ℕ → Answer

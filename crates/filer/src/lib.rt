@@ -7,9 +7,9 @@ ghost use Rattle.refusals.specs.Order.{verdict_of};
 ghost use Rattle.skiplist.specs.Limits.{most_blocks};
 ghost use Rattle.proofbytes.specs.Reading.{Sized};
 ghost use Rattle.filer.specs.Filing.{either as either_is, is_long, long_of, second_rules, matched, wrong_of, untimely};
-ghost use Rattle.filer.specs.Filing.{neighbour_rules, Files};
+ghost use Rattle.filer.specs.Filing.{neighbour_rules, filed_of, Files};
 ghost use Rattle.filer.specs.Filing.{timed, proposed};
-ghost use Rattle.filer.specs.Working.{command_of, Shown, after_first, worked_of};
+ghost use Rattle.filer.specs.Working.{command_of, Shown, after_first, answer_with, worked_of};
 
 use commands::{Command, Metadata, Operation};
 use gateway::Answer;
@@ -26,42 +26,36 @@ pub struct Filing {
     pub right: u32,
 }
 
-// Does what is needed fail?
-fn of_needed(needed: bool, fails: bool) -> bool
-    ensures { result ≡ «needed» && «fails» }
-{
-    if needed {
-        return fails;
-    }
-    false
+// A neighbour as it is shown: a block with its time, and its proof.
+#[derive(Clone, Copy)]
+struct Neighbour<'a> {
+    time: u32,
+    readings: &'a [u8],
+    proof: &'a [u8],
 }
 
 // Does a neighbour fail that is needed, the left one where p is at least 1, the right one where p is less than n?
 fn either(p: u64, n: u64, left: bool, right: bool) -> bool
     ensures { result ≡ either_is p n «left» «right» }
 {
-    if of_needed(0 < p, left) {
-        return true;
-    }
-    of_needed(p < n, right)
+    (0 < p && left) || (p < n && right)
 }
 
 // 11: is the new block too long, or a neighbour that is needed?
 fn long(p: u64, n: u64, readings: &[u8], left: &[u8], right: &[u8]) -> bool
     ensures { result ≡ long_of p n readings.now left.now right.now }
 {
-    if MOST_READINGS < readings.len() {
-        return true;
-    }
-    either(
-        p,
-        n,
-        MOST_READINGS < left.len(),
-        MOST_READINGS < right.len(),
-    )
+    MOST_READINGS < readings.len()
+        || either(
+            p,
+            n,
+            MOST_READINGS < left.len(),
+            MOST_READINGS < right.len(),
+        )
 }
 
 // Insert, as the filing names it.
+// A function and no From: the tag is worked out beside the filing.
 fn command(f: Filing, tag: [u8; 32]) -> Command
     ensures { result ≡ command_of f tag }
 {
@@ -74,95 +68,78 @@ fn command(f: Filing, tag: [u8; 32]) -> Command
 }
 
 // 7, 8, 9 of the second proof, where there is a block after p.
+#[tactic(auto, using(crate::proofs::Answers::second_looked))]
 fn second_verdict(m: Metadata, p: u64, second: &[u8]) -> Verdict
     requires { m.count ≤ most_blocks }
     ensures { result ≡ verdict_of (second_rules m p second.now) }
 {
     if p < m.count {
-        return gateway::proof_verdict(Which::Second, m, p + 1, second);
+        gateway::proof_verdict(Which::Second, m, p + 1, second)
+    } else {
+        Ok(())
     }
-    Verdict::Done
 }
 
 // Is a block that is needed not the one whose tag its proof shows? What is not needed is not hashed.
-fn unmatched(needed: bool, time: u32, readings: &[u8], s: &[u8]) -> bool
-    requires { Shown «needed» readings.now s.now }
-    ensures { result ≡ «needed» && not (matched (timed time readings.now) s.now) }
+// Its readings are not too long, so the match itself is never refused.
+#[tactic(auto, using(crate::proofs::Answers::unmatched_is))]
+fn unmatched(needed: bool, x: Neighbour) -> bool
+    requires { Shown «needed» x.readings.now x.proof.now }
+    ensures { result ≡ «needed» && not (matched (timed x.entry.time x.entry.readings.now) x.entry.proof.now) }
 {
-    if needed {
-        let x = labels::matches(gateway::shown(s), time, readings);
-        return !x.yes;
-    }
-    false
+    needed && !labels::matches(gateway::shown(x.proof), x.time, x.readings).yes
 }
 
 // 16: does a neighbour that is needed not match its tag?
-fn wrong(f: Filing, n: u64, left: &[u8], right: &[u8], first: &[u8], second: &[u8]) -> bool
-    requires { Shown (ltb 0 f.position) left.now first.now × Shown (ltb f.position n) right.now second.now }
-    ensures { result ≡ wrong_of f.position n (timed f.left left.now) (timed f.right right.now)
-        first.now second.now }
+fn wrong(p: u64, n: u64, left: Neighbour, right: Neighbour) -> bool
+    requires { Shown (ltb 0 p) left.readings.now left.proof.now × Shown (ltb p n) right.readings.now right.proof.now }
+    ensures { result ≡ wrong_of p n (timed left.entry.time left.entry.readings.now) (timed right.entry.time right.entry.readings.now)
+        left.entry.proof.now right.entry.proof.now }
 {
-    let p = f.position;
-    if unmatched(0 < p, f.left, left, first) {
-        return true;
-    }
-    unmatched(p < n, f.right, right, second)
+    unmatched(0 < p, left) || unmatched(p < n, right)
 }
 
 // 15: is the new time before that of the left neighbour, or not before that of the right one?
-fn out_of_time(f: Filing, n: u64) -> bool
-    ensures { result ≡ untimely f.position n f.time f.left f.right }
+fn out_of_time(p: u64, n: u64, time: u32, left: u32, right: u32) -> bool
+    ensures { result ≡ untimely p n time left right }
 {
-    let t = f.time;
-    either(f.position, n, t < f.left, f.right <= t)
+    either(p, n, time < left, right <= time)
 }
 
 // 16 and 15, once both proofs have passed.
-fn neighbours_verdict(
-    f: Filing,
-    n: u64,
-    left: &[u8],
-    right: &[u8],
-    first: &[u8],
-    second: &[u8],
-) -> Verdict
-    requires { Shown (ltb 0 f.position) left.now first.now × Shown (ltb f.position n) right.now second.now }
-    ensures { result ≡ verdict_of (neighbour_rules f.position n f.time (timed f.left left.now)
-        (timed f.right right.now) first.now second.now) }
+fn neighbours_verdict(p: u64, n: u64, time: u32, left: Neighbour, right: Neighbour) -> Verdict
+    requires { Shown (ltb 0 p) left.readings.now left.proof.now × Shown (ltb p n) right.readings.now right.proof.now }
+    ensures { result ≡ verdict_of (neighbour_rules p n time (timed left.entry.time left.entry.readings.now)
+        (timed right.entry.time right.entry.readings.now) left.entry.proof.now right.entry.proof.now) }
 {
-    if wrong(f, n, left, right, first, second) {
-        return Verdict::Refused(Refusal::WrongBlock);
+    if wrong(p, n, left, right) {
+        return Err(Refusal::WrongBlock);
     }
-    if out_of_time(f, n) {
-        return Verdict::Refused(Refusal::OutOfTime);
+    if out_of_time(p, n, time, left.time, right.time) {
+        return Err(Refusal::OutOfTime);
     }
-    Verdict::Done
+    Ok(())
 }
 
 // 14, the second proof, 16 and 15, once the first proof has passed.
 fn later_verdict(
     m: Metadata,
-    f: Filing,
+    p: u64,
+    time: u32,
     tag: [u8; 32],
-    left: &[u8],
-    right: &[u8],
-    first: &[u8],
-    second: &[u8],
+    left: Neighbour,
+    right: Neighbour,
 ) -> Verdict
-    requires { (m.count ≤ most_blocks) × Sized first.now
-        × (either_is f.position m.count (is_long left.now) (is_long right.now) ≡ false) }
-    ensures { result ≡ verdict_of (after_first m f.position f.time tag (timed f.left left.now)
-        (timed f.right right.now) first.now second.now) }
+    requires { (m.count ≤ most_blocks) × Sized left.proof.now
+        × (either_is p m.count (is_long left.readings.now) (is_long right.readings.now) ≡ false) }
+    ensures { result ≡ verdict_of (after_first m p time tag (timed left.entry.time left.entry.readings.now)
+        (timed right.entry.time right.entry.readings.now) left.entry.proof.now right.entry.proof.now) }
 {
-    let p = f.position;
-    if commands::repeated(p, tag, gateway::shown(first)) {
-        return Verdict::Refused(Refusal::Repeated);
+    if commands::repeated(p, tag, gateway::shown(left.proof)) {
+        return Err(Refusal::Repeated);
     }
-    let v = second_verdict(m, p, second);
-    match v {
-        Verdict::Refused(why) => Verdict::Refused(why),
-        Verdict::Done => neighbours_verdict(f, m.count, left, right, first, second),
-    }
+    second_verdict(m, p, right.proof)?;
+    neighbours_verdict(p, m.count, time, left, right)
 }
 
 // From the first proof on. The new block's tag is worked out once that has passed.
@@ -174,28 +151,50 @@ fn work(
     right: &[u8],
     first: &[u8],
     second: &[u8],
-) -> Answer
+) -> Result<Answer, Refusal>
     requires { (m.count ≤ most_blocks) × (long_of f.position m.count readings.now left.now right.now ≡ false) }
-    ensures { result ≡ worked_of m (proposed f readings.now left.now right.now)
+    ensures { answer_with m result ≡ worked_of m (proposed f readings.now left.now right.now)
         first.now second.now }
 {
-    let v = gateway::proof_verdict(Which::First, m, f.position, first);
-    match v {
-        Verdict::Refused(why) => gateway::refused(m, why),
-        Verdict::Done => {
-            let t = labels::tag(f.time, readings);
-            let tag = t.tag;
-            let w = later_verdict(m, f, tag, left, right, first, second);
-            match w {
-                Verdict::Refused(why) => gateway::refused(m, why),
-                Verdict::Done => gateway::inserted(f.height, tag, first),
-            }
-        }
+    gateway::proof_verdict(Which::First, m, f.position, first)?;
+    let tag = labels::tag(f.time, readings).tag;
+    let left = Neighbour {
+        time: f.left,
+        readings: left,
+        proof: first,
+    };
+    let right = Neighbour {
+        time: f.right,
+        readings: right,
+        proof: second,
+    };
+    later_verdict(m, f.position, f.time, tag, left, right)?;
+    Ok(gateway::inserted(f.height, tag, first))
+}
+
+// The checks in their order, and Insert's answer where none refuses.
+fn filed(
+    m: Metadata,
+    f: Filing,
+    readings: &[u8],
+    left: &[u8],
+    right: &[u8],
+    first: &[u8],
+    second: &[u8],
+) -> Result<Answer, Refusal>
+    ensures { answer_with m result ≡ filed_of m (proposed f readings.now left.now right.now)
+        first.now second.now }
+{
+    if long(f.position, m.count, readings, left, right) {
+        return Err(Refusal::LongMessage);
     }
+    gateway::opened(m, command(f, [0u8; 32]))?;
+    work(m, f, readings, left, right, first, second)
 }
 
 // Files a block by its time: Insert after the place that the store proposes. A neighbour that is not there, at position 0 or after the
 // end, is not looked at, nor is its proof.
+// The parameters are those that C passes.
 pub fn file(
     m: Metadata,
     f: Filing,
@@ -208,12 +207,8 @@ pub fn file(
     ensures { Files m (proposed f readings.now left.now right.now) first.now
         second.now result }
 {
-    if long(f.position, m.count, readings, left, right) {
-        return gateway::refused(m, Refusal::LongMessage);
-    }
-    let v = gateway::opened(m, command(f, [0u8; 32]));
-    match v {
-        Verdict::Refused(why) => gateway::refused(m, why),
-        Verdict::Done => work(m, f, readings, left, right, first, second),
+    match filed(m, f, readings, left, right, first, second) {
+        Ok(a) => a,
+        Err(why) => gateway::refused(m, why),
     }
 }

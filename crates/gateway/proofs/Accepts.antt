@@ -20,7 +20,7 @@ use Rattle.commands.specs.Meaning.{held_side}
 use Rattle.proofbytes.specs.Reading.{place_of}
 use Rattle.proofbytes.specs.Form.{well_formed}
 use Rattle.proofbytes.proofs.WrittenBack.{formed_writable, writable_formed}
-use Rattle.gateway.specs.declared.examine.Finding.TheVariants.{Fine}
+use Rattle.std.specs.Prelude.{Ok}
 use Rattle.gateway.specs.Checking.{𝓢, proves, ranked, rooted}
 use Rattle.gateway.specs.Working.{finding_of}
 use Rattle.gateway.proofs.Screens.{Found}
@@ -39,7 +39,7 @@ module _ (s : List ℕ) (p : ℕ) (m : Metadata) where
       }
 
   pub accepted-fine : well_formed s ≡ true → Accepted sha256 Sent most_height p (held_side m) (place_of s)
-      → finding_of s p m ≡ Fine
+      → finding_of s p m ≡ Ok tt
   unfolding finding_of proves ranked rooted
   accepted-fine w a = rw (
     w,

@@ -1,7 +1,9 @@
 -- The answers, part by part: a finding against the list of rules, a refusal and an acceptance against the whole.
 -- Assumes nothing.
+use Rattle.std.specs.Prelude.{Ok, Err}
 use Prim.Native.Nat.{ℕ, ◌+◌, ◌-◌, ◌≤◌}
-use mathlib.Core.Path.{◌≡◌, refl, sym, ap, ap₂, ◌∙◌}
+use mathlib.Core.Path.{◌≡◌, refl, sym, ap, ap₂, subst, ◌∙◌}
+use Rattle.std.specs.Result.{MatchResult, IsErrAnd}
 use mathlib.Core.Bool.{Bool, true, false, cond, not, ◌&&◌, ◌||◌}
 use mathlib.Core.List.{List, [], ◌∷◌, ◌++◌}
 use native.Mathlib.Omega.{arith}
@@ -13,9 +15,7 @@ use Rattle.refusals.specs.declared.Which.TheVariants.{First, Second}
 use Rattle.refusals.specs.declared.Refusal.{Refusal}
 use Rattle.refusals.specs.declared.Refusal.TheVariants.{BadProof, WrongPosition, WrongLabel, NotNeighbours}
 use Rattle.refusals.specs.declared.Refusal.TheVariants.{BadMetadata}
-use Rattle.refusals.specs.declared.Verdict.{Verdict}
-use Rattle.refusals.specs.declared.Verdict.TheVariants.{Done, Refused}
-use Rattle.refusals.specs.Order.{Rule, ◌when◌, verdict_of}
+use Rattle.refusals.specs.Order.{Rule, ◌when◌, verdict_of, Verdict}
 use Rattle.refusals.proofs.OrderLaws.{done-refused, verdict-append, verdict_first}
 use Rattle.skiplist.specs.Label.{Side}
 use Rattle.skiplist.specs.Equal.{side-discrete}
@@ -32,13 +32,13 @@ use Rattle.commands.specs.Admission.{admission_rules, admitted_of, least_of}
 use Rattle.commands.specs.Meaning.{metadata_of_side}
 use Rattle.proofbytes.specs.Reading.{count_of, place_of}
 use Rattle.proofbytes.specs.Form.{well_formed}
-use Rattle.gateway.specs.declared.examine.Finding.{Finding}
-use Rattle.gateway.specs.declared.examine.Finding.TheVariants.{Fine, Misread, Misplaced, Mislabelled}
-use Rattle.gateway.specs.declared.examine.Examined.{Examined}
+use Rattle.std.specs.Prelude.{Result, Ok, Err}
+use Rattle.gateway.specs.declared.examine.Fault.{Fault}
+use Rattle.gateway.specs.declared.examine.Fault.TheVariants.{Misread, Misplaced, Mislabelled}
 use Rattle.gateway.specs.Climbing.{coded_place, below_of}
 use Rattle.gateway.specs.Parting.{shared_of, parts_of, only_from, remains_of}
 use Rattle.gateway.specs.Checking.{𝓢, proves, ranked, rooted, proof_rules}
-use Rattle.gateway.specs.Working.{finding_of, blamed, kept_of}
+use Rattle.gateway.specs.Working.{finding_of, refusal_of, blamed, kept_of}
 use Rattle.gateway.specs.Working.{examined_of, Passed}
 use Rattle.gateway.specs.Gateway.{later_rules, opening_rules, replaced_of, inserted_of, remaining_of, answered}
 use Rattle.gateway.specs.Gateway.{gateway_of, accepted_of}
@@ -46,61 +46,88 @@ use Rattle.gateway.specs.Working.{metadata_from, refused_of, one_of, after_both,
 use Rattle.gateway.specs.Working.{deleted_of, worked_of}
 use Rattle.gateway.proofs.Exact.{Is, replaced_is, inserted_is}
 use Rattle.gateway.proofs.Meets.{total, meets_is, remains_is}
+use Rattle.skiplist.proofs.Cases.{never}
 
 -- FINDINGS AND RULES
 module _ (w : Which) (s : List ℕ) (p : ℕ) (m : Metadata) where
   by_tests : (x y z : Bool) → Verdict → Verdict
-  by_tests x y z v = cond (not x) (Refused (BadProof w))
-      (cond (not y) (Refused (WrongPosition w)) (cond (not z) (Refused (WrongLabel w)) v))
+  by_tests x y z v = cond (not x) (Err (BadProof w))
+      (cond (not y) (Err (WrongPosition w)) (cond (not z) (Err (WrongLabel w)) v))
 
-  pub rules_refused : {why : Refusal} (rest : List Rule) → blamed w (finding_of s p m) ≡ Refused why
-      → verdict_of (proof_rules w s p m ++ rest) ≡ Refused why
+  pub rules_refused : {why : Refusal} (rest : List Rule) → blamed w (finding_of s p m) ≡ Err why
+      → verdict_of (proof_rules w s p m ++ rest) ≡ Err why
   unfolding finding_of
   rules_refused {why} rest e = go (well_formed s) (proves s p) (ranked s m && rooted s m) e
     where
-      go : (x y z : Bool) → blamed w (cond x (cond y (cond z Fine Mislabelled) Misplaced) Misread) ≡ Refused why
-          → cond (not x) (Refused (BadProof w)) (cond (not y) (Refused (WrongPosition w))
-          (cond (not z) (Refused (WrongLabel w)) (verdict_of rest))) ≡ Refused why
+      go : (x y z : Bool) → blamed w (cond x (cond y (cond z (Ok (tt {0})) (Err Mislabelled)) (Err Misplaced)) (Err Misread)) ≡ Err why
+          → cond (not x) (Err (BadProof w)) (cond (not y) (Err (WrongPosition w))
+          (cond (not z) (Err (WrongLabel w)) (verdict_of rest))) ≡ Err why
       go true true true f = done-refused f
       go true true false f = f
       go true false z f = f
       go false y z f = f
 
-  pub rules_done : (rest : List Rule) → blamed w (finding_of s p m) ≡ Done
-      → (verdict_of (proof_rules w s p m ++ rest) ≡ verdict_of rest) × (finding_of s p m ≡ Fine)
+  pub rules_done : (rest : List Rule) → blamed w (finding_of s p m) ≡ Ok tt
+      → (verdict_of (proof_rules w s p m ++ rest) ≡ verdict_of rest) × (finding_of s p m ≡ Ok tt)
   unfolding finding_of
   rules_done rest e = go (well_formed s) (proves s p) (ranked s m && rooted s m) e
     where
-      go : (x y z : Bool) → blamed w (cond x (cond y (cond z Fine Mislabelled) Misplaced) Misread) ≡ Done
-          → (cond (not x) (Refused (BadProof w)) (cond (not y) (Refused (WrongPosition w))
-          (cond (not z) (Refused (WrongLabel w)) (verdict_of rest))) ≡ verdict_of rest)
-          × (cond x (cond y (cond z Fine Mislabelled) Misplaced) Misread ≡ Fine)
+      go : (x y z : Bool) → blamed w (cond x (cond y (cond z (Ok (tt {0})) (Err Mislabelled)) (Err Misplaced)) (Err Misread)) ≡ Ok tt
+          → (cond (not x) (Err (BadProof w)) (cond (not y) (Err (WrongPosition w))
+          (cond (not z) (Err (WrongLabel w)) (verdict_of rest))) ≡ verdict_of rest)
+          × (cond x (cond y (cond z (Ok (tt {0})) (Err Mislabelled)) (Err Misplaced)) (Err Misread) ≡ Ok (tt {0}))
       go true true true f = (refl, refl)
       go true true false f = done-refused (sym f)
       go true false z f = done-refused (sym f)
       go false y z f = done-refused (sym f)
 
-pub kept-finding : (x : Finding) (s : List ℕ) (f : ℕ) → (kept_of x s f).finding ≡ x
-kept-finding Fine s f = refl
-kept-finding Misread s f = refl
-kept-finding Misplaced s f = refl
-kept-finding Mislabelled s f = refl
-
-module _ (s : List ℕ) (p : ℕ) (m : Metadata) (f : ℕ) {x : Examined} (e : x ≡ examined_of s p m f) where
-  pub examined_finding : x.finding ≡ finding_of s p m
+module _ (s : List ℕ) (p : ℕ) (m : Metadata) (f : ℕ) {x : Result code.Side Fault} (e : x ≡ examined_of s p m f) where
+  pub examined-side : {t : code.Side} → x ≡ Ok t → (finding_of s p m ≡ Ok tt) × (t ≡ below_of s f)
   unfolding examined_of
-  examined_finding = ap (λ (y : Examined). y.finding) e ∙ kept-finding (finding_of s p m) s f
+  examined-side {t} q = go (finding_of s p m) (sym e ∙ q)
+    where
+      go : (y : Result (Unit {0}) Fault) → kept_of y s f ≡ Ok t → (y ≡ Ok tt) × (t ≡ below_of s f)
+      go (Ok tt) r = (refl, cc)
+      go (Err z) r = let n : ◌≡◌ {A = ℕ} 0 1 = cc in absurd (omega arith)
 
-  pub examined_below : finding_of s p m ≡ Fine → x.below ≡ below_of s f
+  pub examined-fault : {z : Fault} → x ≡ Err z → finding_of s p m ≡ Err z
   unfolding examined_of
-  examined_below q = ap (λ (y : Examined). y.below) e ∙ ap (λ z. (kept_of z s f).below) q
+  examined-fault {z} q = go (finding_of s p m) (sym e ∙ q)
+    where
+      go : (y : Result (Unit {0}) Fault) → kept_of y s f ≡ Err z → y ≡ Err z
+      go (Ok tt) r = let n : ◌≡◌ {A = ℕ} 0 1 = cc in absurd (omega arith)
+      go (Err y) r = ap Err cc
+
+-- a finding handed on with what P says of its fault
+module _ {A : Type 0} (P : Fault → Refusal → Type 0) {x : Result A Fault} {y : Result A Refusal}
+    (e : MatchResult x (λ t. y ≡ Ok t) (λ f. IsErrAnd y (P f))) where
+  pub blamed-ok : {t : A} → y ≡ Ok t → x ≡ Ok t
+  blamed-ok {t} q = go x e
+    where
+      go : (z : Result A Fault) → MatchResult z (λ t. y ≡ Ok t) (λ f. IsErrAnd y (P f)) → z ≡ Ok t
+      go (Ok u) r = let n : u ≡ t = cc in ap Ok n
+      go (Err f) r = absurd (subst (λ (v : Result A Refusal). IsErrAnd v (P f)) q r)
+
+  pub blamed-err : {why : Refusal} → y ≡ Err why → (f : Fault) × (x ≡ Err f) × P f why
+  blamed-err {why} q = go x e
+    where
+      go : (z : Result A Fault) → MatchResult z (λ t. y ≡ Ok t) (λ f. IsErrAnd y (P f))
+          → (f : Fault) × (z ≡ Err f) × P f why
+      go (Ok u) r = let n : ◌≡◌ {A = ℕ} 0 1 = cc in absurd (omega arith)
+      go (Err f) r = (f, refl, subst (λ (v : Result A Refusal). IsErrAnd v (P f)) q r)
+
+-- what is kept of a proof whose finding was handed on
+pub handed-side : (s : List ℕ) (p : ℕ) (m : Metadata) (f : ℕ) {x : Result code.Side Fault} → x ≡ examined_of s p m f
+    → (P : Fault → Refusal → Type 0) {y : Result code.Side Refusal} → MatchResult x (λ t. y ≡ Ok t) (λ z. IsErrAnd y (P z))
+    → {t : code.Side} → y ≡ Ok t → (finding_of s p m ≡ Ok tt) × (t ≡ below_of s f)
+handed-side s p m f ex P e q = examined-side s p m f ex (blamed-ok P e q)
 
 -- A REFUSAL AND AN ACCEPTANCE
-pub answered-refused : (v : Verdict) (why : Refusal) (tag : List ℕ) (new m : Metadata) → v ≡ Refused why
+pub answered-refused : (v : Verdict) (why : Refusal) (tag : List ℕ) (new m : Metadata) → v ≡ Err why
     → refused_of m why ≡ answered v tag new m
 answered-refused v why tag new m e = sym (rw e)
 
-pub answered-done : (v : Verdict) (tag : List ℕ) (new m : Metadata) → v ≡ Done → accepted_of tag new
+pub answered-done : (v : Verdict) (tag : List ℕ) (new m : Metadata) → v ≡ Ok tt → accepted_of tag new
     ≡ answered v tag new m
 answered-done v tag new m e = sym (rw e)
 
@@ -109,23 +136,23 @@ metadata_is i = λ j. record { count = i.rank j; label = i.label j }
 
 -- ONE PROOF, and the rules after it
 module _ (m : Metadata) (p : ℕ) (s : List ℕ) {v : Verdict} (e : v ≡ blamed First (finding_of s p m)) where
-  pub one_fine : v ≡ Done → finding_of s p m ≡ Fine
+  pub one_fine : v ≡ Ok tt → finding_of s p m ≡ Ok tt
   one_fine q = (rules_done First s p m [] (sym e ∙ q)).1
 
   module _ (rest : List Rule) (new : Metadata) where
-    pub one_refused : {why : Refusal} → v ≡ Refused why → refused_of m why ≡ one_of m p s rest new
+    pub one_refused : {why : Refusal} → v ≡ Err why → refused_of m why ≡ one_of m p s rest new
     unfolding one_of
     one_refused {why} q =
         answered-refused (verdict_of (proof_rules First s p m ++ rest)) why (shown (place_of s).item) new m
         (rules_refused First s p m rest (sym e ∙ q))
 
-    pub one_later : {why : Refusal} → v ≡ Done → verdict_of rest ≡ Refused why → refused_of m why ≡ one_of m p s rest new
+    pub one_later : {why : Refusal} → v ≡ Ok tt → verdict_of rest ≡ Err why → refused_of m why ≡ one_of m p s rest new
     unfolding one_of
     one_later {why} q r =
         answered-refused (verdict_of (proof_rules First s p m ++ rest)) why (shown (place_of s).item) new m
         ((rules_done First s p m rest (sym e ∙ q)).0 ∙ r)
 
-    pub one_done : {tag : List ℕ} {n : Metadata} → v ≡ Done → verdict_of rest ≡ Done → tag ≡ shown (place_of s).item
+    pub one_done : {tag : List ℕ} {n : Metadata} → v ≡ Ok tt → verdict_of rest ≡ Ok tt → tag ≡ shown (place_of s).item
         → n ≡ new → accepted_of tag n ≡ one_of m p s rest new
     unfolding one_of
     one_done q r et en =
@@ -174,7 +201,7 @@ module _ (m : Metadata) (small : m.count ≤ 4096) (a b : List ℕ) (ba : Bytes 
     where
       last : (y z : Bool) → y && z ≡ true → z ≡ true
       last true z f = f
-      last false z f = let w : ◌≡◌ {A = ℕ} 0 1 = cc in absurd (omega arith)
+      last false z f = never cc
 
   pub join_done : x ≡ true → {tag : List ℕ} {n : Metadata} {t : code.Side} → tag ≡ shown (place_of b).item → t
       ≡ remains_of a k b l j → n ≡ metadata_from t
@@ -187,40 +214,37 @@ module _ (m : Metadata) (small : m.count ≤ 4096) (a b : List ℕ) (ba : Bytes 
       ∙ sym (rw (meets_test, q))
 
 module _ (m : Metadata) (p : ℕ) (a b : List ℕ) where
-  module _ {v : Verdict} (e : v ≡ blamed Second (finding_of b p m)) where
-    pub second-refused : {why : Refusal} → v ≡ Refused why → refused_of m why ≡ after_first m p a b
-    unfolding after_first
-    second-refused {why} q =
-        answered-refused (verdict_of (later_rules Delete m p [] a b)) why (shown (place_of b).item) (remaining_of a b) m
-        (rules_refused Second b p m ((NotNeighbours when not (meets 𝓢 side-discrete (place_of a) (place_of b))) ∷ [])
-        (sym e ∙ q))
+  pub second-refused : {x : Fault} {why : Refusal} → finding_of b p m ≡ Err x → why ≡ refusal_of Second x
+      → refused_of m why ≡ after_first m p a b
+  unfolding after_first
+  second-refused {why = why} q r =
+      answered-refused (verdict_of (later_rules Delete m p [] a b)) why (shown (place_of b).item) (remaining_of a b) m
+      (rules_refused Second b p m ((NotNeighbours when not (meets 𝓢 side-discrete (place_of a) (place_of b))) ∷ [])
+      (ap (blamed Second) q ∙ ap Err (sym r)))
 
-    pub second_fine : v ≡ Done → finding_of b p m ≡ Fine
-    second_fine q = (rules_done Second b p m [] (sym e ∙ q)).1
+  pub second_fine : blamed Second (finding_of b p m) ≡ Ok tt → finding_of b p m ≡ Ok tt
+  second_fine q = (rules_done Second b p m [] q).1
 
-    pub second-done : v ≡ Done → after_both m a b ≡ after_first m p a b
-    unfolding after_first after_both
-    second-done q =
-        sym (ap (λ z. answered z (shown (place_of b).item) (remaining_of a b) m)
-        (rules_done Second b p m ((NotNeighbours when not (meets 𝓢 side-discrete (place_of a) (place_of b))) ∷ [])
-        (sym e ∙ q)).0)
+  pub second-done : finding_of b p m ≡ Ok (tt {0}) → after_both m a b ≡ after_first m p a b
+  unfolding after_first after_both
+  second-done q =
+      sym (ap (λ z. answered z (shown (place_of b).item) (remaining_of a b) m)
+      (rules_done Second b p m ((NotNeighbours when not (meets 𝓢 side-discrete (place_of a) (place_of b))) ∷ [])
+      (ap (blamed Second) q)).0)
 
-  module _ {v : Verdict} (e : v ≡ blamed First (finding_of a (p - 1) m)) where
-    pub delete_refused : {why : Refusal} → v ≡ Refused why → refused_of m why ≡ deleted_of m p a b
-    unfolding deleted_of
-    delete_refused {why} q =
-        answered-refused (verdict_of (proof_rules First a (p - 1) m ++ later_rules Delete m p [] a b)) why
-        (shown (place_of b).item) (remaining_of a b) m
-        (rules_refused First a (p - 1) m (later_rules Delete m p [] a b) (sym e ∙ q))
+  pub delete_refused : {x : Fault} {why : Refusal} → finding_of a (p - 1) m ≡ Err x → why ≡ refusal_of First x
+      → refused_of m why ≡ deleted_of m p a b
+  unfolding deleted_of
+  delete_refused {why = why} q r =
+      answered-refused (verdict_of (proof_rules First a (p - 1) m ++ later_rules Delete m p [] a b)) why
+      (shown (place_of b).item) (remaining_of a b) m
+      (rules_refused First a (p - 1) m (later_rules Delete m p [] a b) (ap (blamed First) q ∙ ap Err (sym r)))
 
-    pub delete_fine : v ≡ Done → finding_of a (p - 1) m ≡ Fine
-    delete_fine q = (rules_done First a (p - 1) m [] (sym e ∙ q)).1
-
-    pub delete_done : v ≡ Done → after_first m p a b ≡ deleted_of m p a b
-    unfolding after_first deleted_of
-    delete_done q =
-        sym (ap (λ z. answered z (shown (place_of b).item) (remaining_of a b) m)
-        (rules_done First a (p - 1) m (later_rules Delete m p [] a b) (sym e ∙ q)).0)
+  pub delete_done : finding_of a (p - 1) m ≡ Ok tt → after_first m p a b ≡ deleted_of m p a b
+  unfolding after_first deleted_of
+  delete_done q =
+      sym (ap (λ z. answered z (shown (place_of b).item) (remaining_of a b) m)
+      (rules_done First a (p - 1) m (later_rules Delete m p [] a b) (ap (blamed First) q)).0)
 
 -- ANY COMMAND
 module _ (m : Metadata) (k : Command) (a b : List ℕ) where
@@ -244,17 +268,17 @@ module _ (m : Metadata) (k : Command) (a b : List ℕ) where
 
 -- THE OPENING: 12, 2, 3, 4
 module _ (m : Metadata) (k : Command) (a b : List ℕ) where
-  pub opening-worked : verdict_of (opening_rules m k) ≡ Done → worked_of m k a b ≡ gateway_of m k a b
+  pub opening-worked : verdict_of (opening_rules m k) ≡ Ok tt → worked_of m k a b ≡ gateway_of m k a b
   unfolding worked_of gateway_of
   opening-worked e = sym (rw (verdict-append (opening_rules m k) _ e))
 
-  pub opening-refused : {why : Refusal} → verdict_of (opening_rules m k) ≡ Refused why → refused_of m why
+  pub opening-refused : {why : Refusal} → verdict_of (opening_rules m k) ≡ Err why → refused_of m why
       ≡ gateway_of m k a b
   unfolding gateway_of
   opening-refused {why} e = sym (rw (verdict_first (opening_rules m k) _ why e))
 
 module _ (m : Metadata) (k : Command) where
-  pub over_count : ltb 4096 m.count ≡ true → verdict_of (opening_rules m k) ≡ Refused BadMetadata
+  pub over_count : ltb 4096 m.count ≡ true → verdict_of (opening_rules m k) ≡ Err BadMetadata
   over_count e = rw e
 
   pub within_count : ltb 4096 m.count ≡ false → verdict_of (opening_rules m k) ≡ admitted_of k m.count
@@ -262,21 +286,21 @@ module _ (m : Metadata) (k : Command) where
   within_count e = rw e
 
 -- what an opening that is done says
-module _ (m : Metadata) (k : Command) (e : verdict_of (opening_rules m k) ≡ Done) where
+module _ (m : Metadata) (k : Command) (e : verdict_of (opening_rules m k) ≡ Ok tt) where
   pub opening_count : m.count ≤ 4096
   opening_count = go (ltb 4096 m.count) refl e
     where
-      go : (x : Bool) → ltb 4096 m.count ≡ x → cond x (Refused BadMetadata)
-          (verdict_of (admission_rules k m.count)) ≡ Done → m.count ≤ 4096
-      go true q f = let z : ◌≡◌ {A = ℕ} 0 1 = cc in absurd (omega arith)
+      go : (x : Bool) → ltb 4096 m.count ≡ x → cond x (Err BadMetadata)
+          (verdict_of (admission_rules k m.count)) ≡ Ok tt → m.count ≤ 4096
+      go true q f = never cc
       go false q f = ltb-false 4096 m.count q
 
-  pub opening_admitted : verdict_of (admission_rules k m.count) ≡ Done
+  pub opening_admitted : verdict_of (admission_rules k m.count) ≡ Ok tt
   opening_admitted = go (ltb 4096 m.count) e
     where
-      go : (x : Bool) → cond x (Refused BadMetadata) (verdict_of (admission_rules k m.count)) ≡ Done
-          → verdict_of (admission_rules k m.count) ≡ Done
-      go true f = let z : ◌≡◌ {A = ℕ} 0 1 = cc in absurd (omega arith)
+      go : (x : Bool) → cond x (Err BadMetadata) (verdict_of (admission_rules k m.count)) ≡ Ok tt
+          → verdict_of (admission_rules k m.count) ≡ Ok tt
+      go true f = never cc
       go false f = f
 
   pub opening_least : least_of k.operation ≤ k.position
@@ -284,7 +308,7 @@ module _ (m : Metadata) (k : Command) (e : verdict_of (opening_rules m k) ≡ Do
       opening_admitted
     where
       go : (x y : Bool) → ltb k.position (least_of k.operation) ≡ x → (r : Refusal) (v : Verdict)
-          → cond (x || y) (Refused r) v ≡ Done
+          → cond (x || y) (Err r) v ≡ Ok tt
           → least_of k.operation ≤ k.position
-      go true y q r v f = let z : ◌≡◌ {A = ℕ} 0 1 = cc in absurd (omega arith)
+      go true y q r v f = never cc
       go false y q r v f = ltb-false _ _ q

@@ -1,6 +1,7 @@
 -- DEMAND 3 OVER BYTES, and that 10 comes only with a clash: what is accepted over bytes meets the model's premises,
 -- so the model's theorem applies.
 -- Assumes nothing.
+use Rattle.std.specs.Prelude.{Ok, Err}
 use Prim.Native.Nat.{ℕ, ◌<◌}
 use mathlib.Core.Path.{◌≡◌, refl, sym, ap, subst, ◌∙◌}
 use mathlib.Core.Logic.{◌⊎◌, inl, inr}
@@ -14,7 +15,6 @@ use Rattle.refusals.specs.declared.Which.{Which}
 use Rattle.refusals.specs.declared.Which.TheVariants.{First, Second}
 use Rattle.refusals.specs.declared.Refusal.{Refusal}
 use Rattle.refusals.specs.declared.Refusal.TheVariants.{NotNeighbours}
-use Rattle.refusals.specs.declared.Verdict.TheVariants.{Done, Refused}
 use Rattle.refusals.specs.Numbers.{number_of}
 use Rattle.refusals.specs.Order.{◌when◌, verdict_of}
 use Rattle.refusals.proofs.OrderLaws.{done-refused, cases, due_false, due_true, append-done, Lacks, lacks_never, behind}
@@ -40,7 +40,7 @@ use Rattle.commands.specs.declared.Command.{Command}
 use Rattle.commands.specs.Meaning.{held_side, order_of, meaning}
 use Rattle.commands.proofs.RangeLaws.{admitted_range}
 use Rattle.proofbytes.specs.Reading.{place_of}
-use Rattle.gateway.specs.declared.examine.Finding.TheVariants.{Fine}
+use Rattle.std.specs.Prelude.{Ok}
 use Rattle.gateway.specs.Checking.{𝓢, proof_rules}
 use Rattle.gateway.specs.Working.{finding_of, blamed}
 use Rattle.gateway.specs.Gateway.{later_rules, opening_rules, gateway_rules, new_metadata, gateway_of}
@@ -49,13 +49,14 @@ use Rattle.gateway.specs.Demand.{SomeClash, Demand3, NeighboursMeet}
 use Rattle.gateway.proofs.Screens.{Found, finding-fine}
 use Rattle.gateway.proofs.Answers.{rules_refused, rules_done, opening_count, opening_admitted}
 use Rattle.gateway.proofs.Accepts.{found-accepted, accepted-fine}
+use Rattle.skiplist.proofs.Cases.{never}
 
 -- a proof's rules that are done
-pub rules_found : (w : Which) (s : List ℕ) (p : ℕ) (m : Metadata) → verdict_of (proof_rules w s p m) ≡ Done → Found s p m
+pub rules_found : (w : Which) (s : List ℕ) (p : ℕ) (m : Metadata) → verdict_of (proof_rules w s p m) ≡ Ok tt → Found s p m
 rules_found w s p m e = finding-fine s p m (go (cases (blamed w (finding_of s p m))))
   where
-    go : (blamed w (finding_of s p m) ≡ Done) ⊎ ((why : Refusal) × (blamed w (finding_of s p m) ≡ Refused why))
-        → finding_of s p m ≡ Fine
+    go : (blamed w (finding_of s p m) ≡ Ok tt) ⊎ ((why : Refusal) × (blamed w (finding_of s p m) ≡ Err why))
+        → finding_of s p m ≡ Ok tt
     go (inl d) = (rules_done w s p m [] d).1
     go (inr r) = done-refused (sym e ∙ rules_refused w s p m [] r.1)
 
@@ -64,13 +65,13 @@ found_messages : (s : List ℕ) (p : ℕ) (m : Metadata) → Found s p m → one
     ≡ proof_messages sha256 (place_of s)
 found_messages s p m f = rw (f.formed, f.proved, f.counted)
 
-pub found_rules : (w : Which) (s : List ℕ) (p : ℕ) (m : Metadata) → finding_of s p m ≡ Fine
-    → verdict_of (proof_rules w s p m) ≡ Done
+pub found_rules : (w : Which) (s : List ℕ) (p : ℕ) (m : Metadata) → finding_of s p m ≡ Ok tt
+    → verdict_of (proof_rules w s p m) ≡ Ok tt
 found_rules w s p m e = (rules_done w s p m [] (ap (blamed w) e)).0
 
 -- THE PROOFS OF A COMMAND, all passed up to the meeting
 pub record Passing (m : Metadata) (k : Command) (a b : List ℕ) : Type 0 where
-  pub opening : verdict_of (opening_rules m k) ≡ Done
+  pub opening : verdict_of (opening_rules m k) ≡ Ok tt
   pub first : Found a (first_at (meaning k)) m
   pub second : k.operation ≡ Delete → Found b k.position m
 
@@ -98,7 +99,7 @@ module _ (m : Metadata) (k : Command) (a b : List ℕ) (x : Passing m k a b) whe
   passing_messages =
       rw (x.opening, found_messages a (first_at (meaning k)) m x.first, first_done) (go k.operation refl)
     where
-      first_done : verdict_of (proof_rules First a (first_at (meaning k)) m) ≡ Done
+      first_done : verdict_of (proof_rules First a (first_at (meaning k)) m) ≡ Ok tt
       first_done = found_rules First a (first_at (meaning k)) m
           (accepted-fine a (first_at (meaning k)) m x.first.formed
           (found-accepted a (first_at (meaning k)) m x.first))
@@ -146,11 +147,11 @@ new-predicted Insert p h t m a b q = refl
 new-predicted Delete p h t m a b q = meets_gives (place_of a) (place_of b) (q refl)
 
 -- DEMAND 3
-second-done : (o : Operation) (m : Metadata) (p : ℕ) (t a b : List ℕ) → verdict_of (later_rules o m p t a b) ≡ Done
+second-done : (o : Operation) (m : Metadata) (p : ℕ) (t a b : List ℕ) → verdict_of (later_rules o m p t a b) ≡ Ok tt
     → (o ≡ Delete → Found b p m × (meets 𝓢 side-discrete (place_of a) (place_of b) ≡ true))
-second-done Read m p t a b e q = let z : ◌≡◌ {A = ℕ} 0 1 = cc in absurd (omega arith)
-second-done Replace m p t a b e q = let z : ◌≡◌ {A = ℕ} 0 1 = cc in absurd (omega arith)
-second-done Insert m p t a b e q = let z : ◌≡◌ {A = ℕ} 0 1 = cc in absurd (omega arith)
+second-done Read m p t a b e q = never cc
+second-done Replace m p t a b e q = never cc
+second-done Insert m p t a b e q = never cc
 second-done Delete m p t a b e q =
     let d = append-done (proof_rules Second b p m) ((NotNeighbours when not
     (meets 𝓢 side-discrete (place_of a) (place_of b))) ∷ []) e in (
@@ -159,15 +160,15 @@ second-done Delete m p t a b e q =
           NotNeighbours d.1),
     )
 
-module _ (m : Metadata) (k : Command) (a b : List ℕ) (done : verdict_of (gateway_rules m k a b) ≡ Done) where
-  opened : (verdict_of (opening_rules m k) ≡ Done)
+module _ (m : Metadata) (k : Command) (a b : List ℕ) (done : verdict_of (gateway_rules m k a b) ≡ Ok tt) where
+  opened : (verdict_of (opening_rules m k) ≡ Ok tt)
       × (verdict_of (proof_rules First a (first_at (meaning k)) m ++ later_rules k.operation m k.position k.tag a b)
-      ≡ Done)
+      ≡ Ok tt)
   opened = append-done (opening_rules m k) (proof_rules First a (first_at (meaning k)) m ++ later_rules k.operation m
       k.position k.tag a b) done
 
-  pub proved : (verdict_of (proof_rules First a (first_at (meaning k)) m) ≡ Done)
-      × (verdict_of (later_rules k.operation m k.position k.tag a b) ≡ Done)
+  pub proved : (verdict_of (proof_rules First a (first_at (meaning k)) m) ≡ Ok tt)
+      × (verdict_of (later_rules k.operation m k.position k.tag a b) ≡ Ok tt)
   proved = append-done (proof_rules First a (first_at (meaning k)) m) (later_rules k.operation m k.position k.tag a b)
       opened.1
 
@@ -207,12 +208,12 @@ proof-lacks : (n : ℕ) (w : Which) (s : List ℕ) (p : ℕ) (m : Metadata) → 
 proof-lacks n w s p m h = (λ q. omega (arith, q, h), (λ q. omega (arith, q, h), (λ q. omega (arith, q, h), tt)))
 
 pub record Later (r : Refusal) (m : Metadata) (k : Command) (a b : List ℕ) : Type 0 where
-  pub opening : verdict_of (opening_rules m k) ≡ Done
+  pub opening : verdict_of (opening_rules m k) ≡ Ok tt
   pub first : Found a (first_at (meaning k)) m
-  pub rest : verdict_of (later_rules k.operation m k.position k.tag a b) ≡ Refused r
+  pub rest : verdict_of (later_rules k.operation m k.position k.tag a b) ≡ Err r
 
 pub later : (r : Refusal) (m : Metadata) (k : Command) (a b : List ℕ) → 9 < number_of r → (12 ≡ number_of r → ⊥)
-    → verdict_of (gateway_rules m k a b) ≡ Refused r → Later r m k a b
+    → verdict_of (gateway_rules m k a b) ≡ Err r → Later r m k a b
 later r m k a b h e refused =
     let last = later_rules k.operation m k.position k.tag a b in
     let x = behind r (opening_rules m k) (proof_rules First a (first_at (meaning k)) m ++ last)
@@ -228,7 +229,7 @@ record Apart (o : Operation) (m : Metadata) (p : ℕ) (a b : List ℕ) : Type 0 
   unmet : meets 𝓢 side-discrete (place_of a) (place_of b) ≡ false
 
 second_apart : (o : Operation) (m : Metadata) (p : ℕ) (t a b : List ℕ) → verdict_of (later_rules o m p t a b)
-    ≡ Refused NotNeighbours → Apart o m p a b
+    ≡ Err NotNeighbours → Apart o m p a b
 second_apart Read m p t a b e = done-refused e
 second_apart Replace m p t a b e = done-refused e
 second_apart Insert m p t a b e =
@@ -245,7 +246,7 @@ second_apart Delete m p t a b e =
     }
 
 pub none-some : {P : Type 0} {s : Side} → none ≡ some s → P
-none-some e = let z : ◌≡◌ {A = ℕ} 0 1 = cc in absurd (omega arith)
+none-some e = never cc
 
 pub neighbours_meet : NeighboursMeet
 unfolding gateway_of

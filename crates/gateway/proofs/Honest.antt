@@ -1,6 +1,7 @@
 -- DEMAND 2, the gateway's half: the honest proofs of a row within the limits, written as bytes, are accepted, and the
 -- answer is the edited row's.
 -- Assumes nothing.
+use Rattle.std.specs.Prelude.{Ok}
 use Prim.Native.Nat.{ℕ, ◌≤◌}
 use mathlib.Core.Path.{◌≡◌, refl, sym, ap, ap₂, subst, ◌∙◌}
 use mathlib.Core.Logic.{inl, inr}
@@ -12,7 +13,6 @@ use lib.ListN.{length, length-map}
 use borrow.Author.Tests.{le-ltb}
 use Rattle.refusals.specs.declared.Which.TheVariants.{First, Second}
 use Rattle.refusals.specs.declared.Refusal.TheVariants.{NotNeighbours}
-use Rattle.refusals.specs.declared.Verdict.TheVariants.{Done}
 use Rattle.refusals.specs.Order.{◌when◌, verdict_of}
 use Rattle.refusals.proofs.OrderLaws.{verdict-append}
 use Rattle.sha256.specs.Hash.{sha256}
@@ -46,13 +46,14 @@ use Rattle.proofbytes.specs.Layout.{most_entries}
 use Rattle.proofbytes.specs.Reading.{place_of}
 use Rattle.proofbytes.specs.Form.{AllFit, BesideFits, Writable}
 use Rattle.proofbytes.proofs.ReadBack.{written_formed, written_read}
-use Rattle.gateway.specs.declared.examine.Finding.TheVariants.{Fine}
+use Rattle.std.specs.Prelude.{Ok}
 use Rattle.gateway.specs.Checking.{𝓢, proof_rules}
 use Rattle.gateway.specs.Working.{finding_of}
 use Rattle.gateway.specs.Gateway.{later_rules, opening_rules, gateway_rules, new_metadata, gateway_of}
 use Rattle.gateway.specs.Demand.{proof_for, HonestAccepted}
 use Rattle.gateway.proofs.Accepts.{accepted-fine}
 use Rattle.gateway.proofs.Demands.{new-predicted, some_inj, none-some, found_rules}
+use Rattle.skiplist.proofs.Cases.{never}
 
 -- HONEST PROOFS: the sides of a row's path are what bytes can carry
 sent_any : (f : Bool) (c : Item) → Kept f c → Sent true c
@@ -137,7 +138,7 @@ module _ (p : ℕ) (bs : List Block) (l : WithinLimits bs) (in_row : p ≤ lengt
   pub way-place : place_of (proof_for p bs) ≡ labelled sha256 (way_to p bs)
   way-place = written_read (labelled sha256 (way_to p bs)) way-writable
 
-  pub way_fine : (m : Metadata) → held_side m ≡ metadata_of sha256 bs → finding_of (proof_for p bs) p m ≡ Fine
+  pub way_fine : (m : Metadata) → held_side m ≡ metadata_of sha256 bs → finding_of (proof_for p bs) p m ≡ Ok tt
   way_fine m held =
       accepted-fine (proof_for p bs) p m (written_formed (labelled sha256 (way_to p bs)) way-writable)
       (subst (λ z. Accepted sha256 Sent most_height p (held_side m) z) (sym way-place)
@@ -162,9 +163,9 @@ predicted_same Delete p h t m z w v e = ap (deleted 𝓢 side-discrete z) (e ref
 -- where Delete's prediction is there, the proofs meet
 predicted-meets : (o : Operation) (p h : ℕ) (t : List ℕ) (m : Side) (z w : Place Side) (s : Side)
     → predicted sha256 (order_of o p h t) m z w ≡ some s → o ≡ Delete → meets 𝓢 side-discrete z w ≡ true
-predicted-meets Read p h t m z w s e q = let y : ◌≡◌ {A = ℕ} 0 1 = cc in absurd (omega arith)
-predicted-meets Replace p h t m z w s e q = let y : ◌≡◌ {A = ℕ} 0 1 = cc in absurd (omega arith)
-predicted-meets Insert p h t m z w s e q = let y : ◌≡◌ {A = ℕ} 0 1 = cc in absurd (omega arith)
+predicted-meets Read p h t m z w s e q = never cc
+predicted-meets Replace p h t m z w s e q = never cc
+predicted-meets Insert p h t m z w s e q = never cc
 predicted-meets Delete p h t m z w s e q = go (meets 𝓢 side-discrete z w) e
   where
     go : (x : Bool) → cond x (some (remains 𝓢 side-discrete z w)) none ≡ some s → x ≡ true
@@ -172,8 +173,8 @@ predicted-meets Delete p h t m z w s e q = go (meets 𝓢 side-discrete z w) e
     go false f = none-some f
 
 later_rules-done : (o : Operation) (m : Metadata) (p : ℕ) (t a b : List ℕ)
-    → (o ≡ Insert → repeats_at p t (shown (place_of a).item) ≡ false) → (o ≡ Delete → finding_of b p m ≡ Fine)
-    → (o ≡ Delete → meets 𝓢 side-discrete (place_of a) (place_of b) ≡ true) → verdict_of (later_rules o m p t a b) ≡ Done
+    → (o ≡ Insert → repeats_at p t (shown (place_of a).item) ≡ false) → (o ≡ Delete → finding_of b p m ≡ Ok tt)
+    → (o ≡ Delete → meets 𝓢 side-discrete (place_of a) (place_of b) ≡ true) → verdict_of (later_rules o m p t a b) ≡ Ok tt
 later_rules-done Read m p t a b n f e = refl
 later_rules-done Replace m p t a b n f e = refl
 later_rules-done Insert m p t a b n f e = rw (n refl)
@@ -187,7 +188,7 @@ module _ (m : Metadata) (k : Command) (a b : List ℕ) (bs : List Block) (l : Wi
     (range : InRange (meaning k) (length bs)) (held : held_side m ≡ metadata_of sha256 bs)
     (ea : a ≡ proof_for (first_at (meaning k)) bs) (few : length (way_to (first_at (meaning k)) bs).entries ≤ most_entries)
   where
-    honest_opening : verdict_of (opening_rules m k) ≡ Done
+    honest_opening : verdict_of (opening_rules m k) ≡ Ok tt
     honest_opening =
         let count : m.count ≡ length bs = ap (λ (s : Side). s.rank) held ∙ metadata_count sha256 bs in
         rw (le-ltb 4096 m.count (omega (arith, count, l.count)))
@@ -199,7 +200,7 @@ module _ (m : Metadata) (k : Command) (a b : List ℕ) (bs : List Block) (l : Wi
     honest_passes =
         let p = first_at (meaning k) in
         let in_row = first_in_row k.operation k.position k.height k.tag (length bs) range in
-        let fine : finding_of a p m ≡ Fine = rw ea (way_fine p bs l in_row few m held) in
+        let fine : finding_of a p m ≡ Ok tt = rw ea (way_fine p bs l in_row few m held) in
         let last = later_rules k.operation m k.position k.tag a b in
         verdict-append (opening_rules m k) (proof_rules First a p m ++ last) honest_opening
         ∙ verdict-append (proof_rules First a p m) last (found_rules First a p m fine)
@@ -218,7 +219,7 @@ honest_tag k a bs l range ea few q =
 pub honest_accepted : HonestAccepted
 unfolding gateway_of
 honest_accepted m k a b bs l range anew held ea few eb = rw done
-    (λ i. record { verdict = Done; tag = tag i; metadata = new i })
+    (λ i. record { verdict = Ok tt; tag = tag i; metadata = new i })
   where
     o : Operation
     o = k.operation
@@ -229,7 +230,7 @@ honest_accepted m k a b bs l range anew held ea few eb = rw done
     at_row : k.position ≤ length bs
     at_row = spot_in_row k.operation k.position k.height k.tag (length bs) range
 
-    fine : finding_of a (first_at (meaning k)) m ≡ Fine
+    fine : finding_of a (first_at (meaning k)) m ≡ Ok tt
     fine = rw ea (way_fine (first_at (meaning k)) bs l in_row few m held)
 
     place : place_of a ≡ labelled sha256 (way_to (first_at (meaning k)) bs)
@@ -254,11 +255,11 @@ honest_accepted m k a b bs l range anew held ea few eb = rw done
     other_tag : k.operation ≡ Insert → repeats_at k.position k.tag (shown (place_of a).item) ≡ false
     other_tag q = rw (honest_tag k a bs l range ea few q) (rw q at (not_again bs k range anew))
 
-    last : verdict_of (later_rules k.operation m k.position k.tag a b) ≡ Done
+    last : verdict_of (later_rules k.operation m k.position k.tag a b) ≡ Ok tt
     last = later_rules-done k.operation m k.position k.tag a b other_tag
         (λ q. rw (eb q).0 (way_fine k.position bs l at_row (eb q).1 m held)) met
 
-    done : verdict_of (gateway_rules m k a b) ≡ Done
+    done : verdict_of (gateway_rules m k a b) ≡ Ok tt
     done = honest_passes m k a b bs l range held ea few ∙ last
 
     tag : reported (meaning k) (place_of a) (place_of b) ≡ tag_at (spot (meaning k)) bs

@@ -9,7 +9,7 @@ use native.Mathlib.Omega.{arith}
 use native.Mathlib.Numerals.{add-one}
 use lib.Dec.{eqb, ltb}
 use lib.ListN.{length}
-use borrow.Author.Tests.{le-ltb, ltb-true, ltb-false}
+use borrow.Author.Tests.{ltb-true, ltb-false}
 use Rattle.octets.specs.Numbers.{Bytes}
 use Rattle.octets.specs.Runs.{part}
 use Rattle.octets.specs.Runs as runs
@@ -23,7 +23,7 @@ use Rattle.skiplist.specs.Label.{Side, leaf_side}
 use Rattle.skiplist.specs.Equal.{is, item-discrete, side-discrete, same}
 use Rattle.skiplist.specs.Meeting.{Parting, later, share, parting, parts_at, parts, only_below, meets, remains}
 use Rattle.skiplist.specs.Blocks.{item_of}
-use Rattle.skiplist.proofs.Cases.{both}
+use Rattle.skiplist.proofs.Cases.{both, never}
 use Rattle.commands.specs.declared.Metadata.{Metadata}
 use Rattle.labels.specs.declared.Side as code
 use Rattle.labels.specs.CodeSides.{leaf_of}
@@ -31,7 +31,9 @@ use Rattle.proofbytes.specs.declared.read.Fields.{Fields}
 use Rattle.proofbytes.specs.declared.read.Beside.{Beside}
 use Rattle.proofbytes.specs.Reading.{at, fields_at, beside_at, entry_of, side_from, entry_at, entries_from, count_of, place_of}
 use Rattle.proofbytes.proofs.ReadingLaws.{entries_none, entries_down}
-use Rattle.gateway.specs.Climbing.{item_at, stop_side_of, stop_leaf, lesser_of, below_of}
+use Rattle.std.specs.Prelude.{min}
+use Rattle.std.proofs.Math.Nat.{min-eq_left, min-eq_right, min-le_right}
+use Rattle.gateway.specs.Climbing.{item_at, stop_side_of, stop_leaf, below_of}
 use Rattle.gateway.specs.Parting.{shared_from, shared_of, fork_of, halt_of, parts_of, only_from, remains_of}
 use Rattle.gateway.specs.Checking.{𝓢}
 use Rattle.gateway.specs.Working.{Passed}
@@ -104,33 +106,22 @@ unfolding shared_of
 first_low a b = (shared_low a b (count_of a) (count_of b) 0).0
 
 -- what comes after the parting
-lesser_next : (j k : ℕ) → j < k → lesser_of (j + 1) k ≡ j + 1
-lesser_next j k l = go (ltb (j + 1) k) refl
-  where
-    go : (x : Bool) → ltb (j + 1) k ≡ x → cond x (j + 1) k ≡ j + 1
-    go true e = refl
-    go false e = omega (arith, ltb-false (j + 1) k e)
+min_next : (j k : ℕ) → j < k → min (j + 1) k ≡ j + 1
+min_next j k l = min-eq_left {n = j + 1} {m = k} (omega (arith, l))
 
 pub later_is : (s : List ℕ) (j k : ℕ) → j ≤ k → later (entries_from s j (k - j))
-    ≡ entries_from s (lesser_of (j + 1) k) (k - lesser_of (j + 1) k)
+    ≡ entries_from s (min (j + 1) k) (k - min (j + 1) k)
 later_is s j k h = go (ltb j k) refl
   where
     go : (x : Bool) → ltb j k ≡ x → later (entries_from s j (k - j))
-        ≡ entries_from s (lesser_of (j + 1) k) (k - lesser_of (j + 1) k)
+        ≡ entries_from s (min (j + 1) k) (k - min (j + 1) k)
     go true e =
         let l = ltb-true j k e in
-        ap later (entries_down s j k l) ∙ ap (λ i. entries_from s i (k - i)) (sym (lesser_next j k l))
+        ap later (entries_down s j k l) ∙ ap (λ i. entries_from s i (k - i)) (sym (min_next j k l))
     go false e =
         let l = ltb-false j k e in
-        let n : ltb (j + 1) k ≡ false = le-ltb (j + 1) k (omega arith) in
+        let n : min (j + 1) k ≡ k = min-eq_right {n = k} {m = j + 1} (omega (arith, l)) in
         ap later (entries_none s j (k - j) (omega arith)) ∙ sym (rw n (entries_none s k (k - k) (omega arith)))
-
-pub lesser_low : (f k : ℕ) → lesser_of f k ≤ k
-lesser_low f k = go (ltb f k) refl
-  where
-    go : (x : Bool) → ltb f k ≡ x → cond x f k ≤ k
-    go true e = omega (arith, ltb-true f k e)
-    go false e = omega arith
 
 -- WHAT A PROOF RECOMPUTES below a place, where it passed
 module _ (s : List ℕ) (m : Metadata) (small : m.count ≤ 4096) (passed : Passed s m) where
@@ -148,12 +139,12 @@ module _ (s : List ℕ) (m : Metadata) (small : m.count ≤ 4096) (passed : Pass
       ∙ ap (fields 𝓢) (entries_split s i 0 (k - i) ∙ ap (λ j. entries_from s 0 i ++ entries_from s j (k - i)) z)
       ∙ fields-append (entries_from s 0 i) (entries_from s i (k - i)))
 
-  pub below_is : (f : ℕ) → Is (below_of s f) (plug 𝓢 (entries_from s (lesser_of f (count_of s))
-      (count_of s - lesser_of f (count_of s))) (leaf_side sha256 (place_of s).item (place_of s).side))
+  pub below_is : (f : ℕ) → Is (below_of s f) (plug 𝓢 (entries_from s (min f (count_of s))
+      (count_of s - min f (count_of s))) (leaf_side sha256 (place_of s).item (place_of s).side))
   unfolding below_of
   below_is f =
-      let sum = part_sum (lesser_of f (count_of s)) (lesser_low f (count_of s)) in
-      climb_is (entries_from s (lesser_of f (count_of s)) (count_of s - lesser_of f (count_of s))) (stop_leaf s (count_of s))
+      let sum = part_sum (min f (count_of s)) (min-le_right f (count_of s)) in
+      climb_is (entries_from s (min f (count_of s)) (count_of s - min f (count_of s))) (stop_leaf s (count_of s))
       (leaf_is (item_at s (count_of s)) (stop_side_of (beside_at s (count_of s))) (side_stop (beside_at s (count_of s)))
       (omega (arith, total)))
       (omega (arith, total, sum))
@@ -220,15 +211,15 @@ parts_none (pass d ∷ p) c r x w = refl
 
 rights-only : (p : List (Entry Side)) → only_rights p ≡ true → rights p ≡ p
 rights-only [] e = refl
-rights-only (down l s ∷ p) e = let z : ◌≡◌ {A = ℕ} 0 1 = cc in absurd (omega arith)
+rights-only (down l s ∷ p) e = never cc
 rights-only (right l s ∷ p) e = rw (rights-only p e)
 rights-only (pass c ∷ p) e = rw (rights-only p e)
 
 downs-only : (p : List (Entry Side)) → only_downs p ≡ true → downs p ≡ p
 downs-only [] e = refl
 downs-only (down l s ∷ p) e = rw (downs-only p e)
-downs-only (right l s ∷ p) e = let z : ◌≡◌ {A = ℕ} 0 1 = cc in absurd (omega arith)
-downs-only (pass c ∷ p) e = let z : ◌≡◌ {A = ℕ} 0 1 = cc in absurd (omega arith)
+downs-only (right l s ∷ p) e = never cc
+downs-only (pass c ∷ p) e = never cc
 
 -- TWO PROOFS THAT PASSED
 module _ (a b : List ℕ) (m : Metadata) (small : m.count ≤ 4096) (ba : Bytes a) (bb : Bytes b) (pa : Passed a m)
@@ -268,11 +259,11 @@ module _ (a b : List ℕ) (m : Metadata) (small : m.count ≤ 4096) (ba : Bytes 
 
       u : j < k → Is (below_of a (j + 1)) (plug 𝓢 (entries_from a (j + 1) (k - (j + 1)))
           (leaf_side sha256 (place_of a).item (place_of a).side))
-      u h = rw (lesser_next j k h) at (below_is a m small pa (j + 1))
+      u h = rw (min_next j k h) at (below_is a m small pa (j + 1))
 
       v : j < l → Is (below_of b (j + 1)) (plug 𝓢 (entries_from b (j + 1) (l - (j + 1)))
           (leaf_side sha256 (place_of b).item (place_of b).side))
-      v h = rw (lesser_next j l h) at (below_is b m small pb (j + 1))
+      v h = rw (min_next j l h) at (below_is b m small pb (j + 1))
 
       go : (x y : Bool) → ltb j l ≡ x → ltb j k ≡ y
           → parts_at 𝓢 side-discrete (entries_from a j (k - j)) (place_of a).item (place_of a).side
@@ -321,10 +312,10 @@ module _ (a b : List ℕ) (m : Metadata) (small : m.count ≤ 4096) (ba : Bytes 
   remains_is o = subst (Is (remains_of a (count_of a) b (count_of b) (shared_of a b))) (sym whole) made
     where
       P : List (Entry Side)
-      P = entries_from a (lesser_of (shared_of a b + 1) (count_of a)) (count_of a - lesser_of (shared_of a b + 1) (count_of a))
+      P = entries_from a (min (shared_of a b + 1) (count_of a)) (count_of a - min (shared_of a b + 1) (count_of a))
 
       Q : List (Entry Side)
-      Q = entries_from b (lesser_of (shared_of a b + 1) (count_of b)) (count_of b - lesser_of (shared_of a b + 1) (count_of b))
+      Q = entries_from b (min (shared_of a b + 1) (count_of b)) (count_of b - min (shared_of a b + 1) (count_of b))
 
       h : (only_rights P ≡ true) × (only_downs Q ≡ true)
       h = both (only_rights P) (only_downs Q) o
@@ -349,14 +340,14 @@ module _ (a b : List ℕ) (m : Metadata) (small : m.count ≤ 4096) (ba : Bytes 
         omega (
           arith,
           total a m small pa,
-          part_sum a m small pa (lesser_of (shared_of a b + 1) (count_of a))
-              (lesser_low (shared_of a b + 1) (count_of a)),
+          part_sum a m small pa (min (shared_of a b + 1) (count_of a))
+              (min-le_right (shared_of a b + 1) (count_of a)),
         ),
         omega (
           arith,
           total b m small pb,
-          part_sum b m small pb (lesser_of (shared_of a b + 1) (count_of b))
-              (lesser_low (shared_of a b + 1) (count_of b)),
+          part_sum b m small pb (min (shared_of a b + 1) (count_of b))
+              (min-le_right (shared_of a b + 1) (count_of b)),
         ),
       )
 

@@ -18,6 +18,7 @@ use Rattle.proofbytes.proofs.ReadingLaws.{entries_none, entries_up}
 use Rattle.gateway.specs.Climbing.{climbed, push_if}
 use Rattle.gateway.specs.Parting.{lower_of}
 use Rattle.gateway.proofs.Runs.{level-entry}
+use Rattle.skiplist.proofs.Cases.{never}
 
 abbrev level_at : List ℕ → ℕ → ℕ
 level_at s i = (fields_at s i).level
@@ -124,7 +125,7 @@ record First (a : List ℕ) (f i : ℕ) (b : List ℕ) (g j : ℕ) : Type 0 wher
   lower : g < j → level_at a (i - 1) < level_at b (j - 1)
 
 false-true : {P : Type 0} → false ≡ true → P
-false-true e = let z : ◌≡◌ {A = ℕ} 0 1 = cc in absurd (omega arith)
+false-true e = never cc
 
 module _ (a : List ℕ) (f i : ℕ) (b : List ℕ) (g j : ℕ) where
   chose_first : lower_of a f i b g j ≡ true → First a f i b g j

@@ -1,6 +1,7 @@
 -- ASK 4 OVER BYTES: what is refused with 14 comes again and what is accepted does not, or there is a clash; and on the honest proof 14
 -- comes exactly there.
 -- Assumes nothing.
+use Rattle.std.specs.Prelude.{Ok, Err}
 use Prim.Native.Nat.{ℕ}
 use mathlib.Core.Path.{◌≡◌, refl, sym, ◌∙◌}
 use mathlib.Core.Logic.{◌⊎◌, inl, inr}
@@ -8,7 +9,6 @@ use mathlib.Core.Bool.{true, false, false≢true}
 use mathlib.Core.List.{List}
 use native.Mathlib.Omega.{arith}
 use Rattle.refusals.specs.declared.Refusal.TheVariants.{Repeated}
-use Rattle.refusals.specs.declared.Verdict.TheVariants.{Done, Refused}
 use Rattle.refusals.specs.Order.{verdict_of}
 use Rattle.refusals.proofs.OrderLaws.{done-refused, due_false, due_true, lacks_never}
 use Rattle.sha256.specs.Hash.{sha256}
@@ -26,6 +26,7 @@ use Rattle.gateway.specs.Gateway.{later_rules, gateway_rules, gateway_of}
 use Rattle.gateway.specs.Demand.{SomeClash, RepeatsStand, AcceptedAnew, HonestRepeats}
 use Rattle.gateway.proofs.Demands.{Passing, in_row, Says, model_says, proved, done_passing, Later, later}
 use Rattle.gateway.proofs.Honest.{honest_passes, honest_tag}
+use Rattle.skiplist.proofs.Cases.{never}
 
 -- 14 ONLY FOR WHAT COMES AGAIN, or with a clash
 record Repeating (o : Operation) (p : ℕ) (t a : List ℕ) : Type 0 where
@@ -33,7 +34,7 @@ record Repeating (o : Operation) (p : ℕ) (t a : List ℕ) : Type 0 where
   same : repeats_at p t (shown (place_of a).item) ≡ true
 
 later_repeats : (o : Operation) (m : Metadata) (p : ℕ) (t a b : List ℕ)
-    → verdict_of (later_rules o m p t a b) ≡ Refused Repeated → Repeating o p t a
+    → verdict_of (later_rules o m p t a b) ≡ Err Repeated → Repeating o p t a
 later_repeats Read m p t a b e = done-refused e
 later_repeats Replace m p t a b e = done-refused e
 later_repeats Insert m p t a b e =
@@ -42,7 +43,7 @@ later_repeats Delete m p t a b e =
     absurd (lacks_never Repeated (later_rules Delete m p t a b)
     (λ q. omega (arith, q), (λ q. omega (arith, q), (λ q. omega (arith, q), (λ q. omega (arith, q), tt)))) e)
 
-module _ (m : Metadata) (k : Command) (a b : List ℕ) (refused : verdict_of (gateway_rules m k a b) ≡ Refused Repeated)
+module _ (m : Metadata) (k : Command) (a b : List ℕ) (refused : verdict_of (gateway_rules m k a b) ≡ Err Repeated)
   where
     x : Later Repeated m k a b
     x = later Repeated m k a b (omega arith) (λ q. omega (arith, q)) refused
@@ -51,7 +52,7 @@ module _ (m : Metadata) (k : Command) (a b : List ℕ) (refused : verdict_of (ga
     repeating = later_repeats k.operation m k.position k.tag a b x.rest
 
     not_both : {P : Type 0} → k.operation ≡ Insert → k.operation ≡ Delete → P
-    not_both e f = let g = sym e ∙ f in let z : ◌≡◌ {A = ℕ} 0 1 = cc in absurd (omega arith)
+    not_both e f = let g = sym e ∙ f in never cc
 
     repeating_passing : Passing m k a b
     repeating_passing = record {
@@ -77,11 +78,11 @@ repeats_stand m k a b bs l held refused = go (model_says m k a b bs l held (repe
     go (inr r) = inr (comes_again m k a b bs held (repeating_passing m k a b refused) (repeating m k a b refused) r.1)
 
 -- and what is accepted does not
-later_anew : (o : Operation) (m : Metadata) (p : ℕ) (t a b : List ℕ) → verdict_of (later_rules o m p t a b) ≡ Done
+later_anew : (o : Operation) (m : Metadata) (p : ℕ) (t a b : List ℕ) → verdict_of (later_rules o m p t a b) ≡ Ok tt
     → o ≡ Insert → repeats_at p t (shown (place_of a).item) ≡ false
-later_anew Read m p t a b e q = let z : ◌≡◌ {A = ℕ} 0 1 = cc in absurd (omega arith)
-later_anew Replace m p t a b e q = let z : ◌≡◌ {A = ℕ} 0 1 = cc in absurd (omega arith)
-later_anew Delete m p t a b e q = let z : ◌≡◌ {A = ℕ} 0 1 = cc in absurd (omega arith)
+later_anew Read m p t a b e q = never cc
+later_anew Replace m p t a b e q = never cc
+later_anew Delete m p t a b e q = never cc
 later_anew Insert m p t a b e q = due_false (repeats_at p t (shown (place_of a).item)) Repeated e
 
 pub accepted_anew : AcceptedAnew
@@ -102,7 +103,7 @@ pub honest_repeats : HonestRepeats
 unfolding gateway_of
 honest_repeats m k a b bs l held ea few = (only, given)
   where
-    only : verdict_of (gateway_rules m k a b) ≡ Refused Repeated → Again bs k
+    only : verdict_of (gateway_rules m k a b) ≡ Err Repeated → Again bs k
     only refused =
         let x = repeating_passing m k a b refused in
         let r = repeating m k a b refused in
@@ -110,7 +111,7 @@ honest_repeats m k a b bs l held ea few = (only, given)
         comes_again m k a b bs held x r
         (rw r.insert (honest_tag k a bs l range ea few r.insert))
 
-    given : Again bs k → verdict_of (gateway_rules m k a b) ≡ Refused Repeated
+    given : Again bs k → verdict_of (gateway_rules m k a b) ≡ Err Repeated
     given w =
         let r = again-repeats bs k w in
         let there = honest_tag k a bs l r.0 ea few w.insert in

@@ -1,7 +1,8 @@
 -- Entries tested one by one by their fields: kinds, levels, what Insert keeps, and the entries that two proofs share.
 -- Assumes nothing.
 use Prim.Native.Nat.{ℕ, zero, suc, ◌+◌, ◌-◌, ◌≤◌, ◌<◌}
-use mathlib.Core.Path.{◌≡◌, refl, sym, ap}
+use mathlib.Core.Path.{◌≡◌, refl, sym, ap, ◌∙◌}
+use mathlib.Core.Logic.{◌⊎◌, inl, inr}
 use mathlib.Core.List.{List, ◌∷◌}
 use mathlib.Core.Bool.{Bool, true, false, cond, not, ◌&&◌}
 use native.Mathlib.Omega.{arith}
@@ -16,6 +17,9 @@ use Rattle.skiplist.specs.Blocks.{item_of}
 use Rattle.proofbytes.specs.declared.read.Fields.{Fields}
 use Rattle.proofbytes.specs.Reading.{at, fields_at, entry_of, entry_at, entries_from, count_of}
 use Rattle.proofbytes.proofs.ReadingLaws.{entries_none, entries_down}
+use Rattle.std.specs.Prelude.{min}
+use Rattle.skiplist.proofs.Cases.{order}
+use Rattle.std.proofs.Math.Nat.{min-eq_left, min-eq_right}
 use Rattle.gateway.specs.Climbing.{kept_count}
 use Rattle.gateway.specs.Parting.{shared_from, shared_of, only_of}
 
@@ -157,6 +161,16 @@ pub shared_second : (a b : List ℕ) (j n m : ℕ) → m ≡ 0 → shared_from a
 unfolding shared_from
 shared_second a b j zero m e = refl
 shared_second a b j (suc n) m e = rw e
+
+-- past the lesser of the two counts
+pub shared_out : (a b : List ℕ) (j k l : ℕ) {most : ℕ} → most ≡ min k l → most ≤ j
+    → shared_from a b j (k - j) (l - j) ≡ 0
+shared_out a b j k l e h = go (order k l)
+  where
+    go : (k < l) ⊎ (l ≤ k) → shared_from a b j (k - j) (l - j) ≡ 0
+    go (inl x) =
+        shared_first a b j (k - j) (l - j) (omega (arith, h, e ∙ min-eq_left {n = k} {m = l} (omega (arith, x))))
+    go (inr x) = shared_second a b j (k - j) (l - j) (omega (arith, h, e ∙ min-eq_right {n = l} {m = k} x))
 
 pub shared_done : (a b : List ℕ) (j k l : ℕ) {n : ℕ} → j + n ≡ shared_from a b 0 k l → n ≡ 0 → k ≡ count_of a → l
     ≡ count_of b → j ≡ shared_of a b

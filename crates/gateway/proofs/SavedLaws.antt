@@ -1,5 +1,6 @@
 -- Metadata saved and loaded: the bytes as they are written, and load after save and save after load are identities.
 -- Assumes nothing.
+use Rattle.std.specs.Prelude.{Ok}
 use Prim.Native.Nat.{ℕ, ◌≤◌}
 use mathlib.Core.Path.{◌≡◌, refl, sym, ap, ap₂, ◌∙◌}
 use mathlib.Core.Bool.{true}
@@ -14,7 +15,6 @@ use Rattle.octets.specs.Runs.{patch, part}
 use Rattle.octets.proofs.PatchLaws.{patch_next, patch_all}
 use Rattle.octets.proofs.PartLaws.{part-add, part_all, part_middle}
 use Rattle.octets.proofs.NumberLaws.{read_middle, write_back}
-use Rattle.refusals.specs.declared.Verdict.TheVariants.{Done}
 use Rattle.commands.specs.declared.Metadata.{Metadata}
 use Rattle.gateway.specs.declared.saved.Saved.{Saved}
 use Rattle.gateway.specs.declared.saved.Loaded.{Loaded}
@@ -74,10 +74,10 @@ module _ (m : Metadata) (small : m.count ≤ 4096) (long : length m.label ≡ 32
   )
 
   -- LOAD AFTER SAVE
-  pub load-save : load_of (save_of m).bytes ≡ record { verdict = Done; metadata = m }
+  pub load-save : load_of (save_of m).bytes ≡ record { verdict = Ok tt; metadata = m }
   unfolding save_of load_of
   load-save = rw (le-ltb 4096 m.count small, stated)
-      (λ i. record { verdict = Done; metadata = record { count = count_back i; label = label_back i } })
+      (λ i. record { verdict = Ok tt; metadata = record { count = count_back i; label = label_back i } })
 
 -- WHAT THE STATED FORM SAYS
 pub record Stated (s : List ℕ) : Type 0 where
@@ -117,9 +117,9 @@ module _ (s : List ℕ) (bytes : Bytes s) (done : as_stated s ≡ true) where
       e ∙ rw (← (part-add s 3 4 32), ← (part-add s 1 2 36), ← (part-add s 0 1 38))
       (ap (part s 0) (sym is.size) ∙ part_all s)
 
-  pub save-load : save_of (load_of s).metadata ≡ record { verdict = Done; bytes = s }
+  pub save-load : save_of (load_of s).metadata ≡ record { verdict = Ok tt; bytes = s }
   unfolding save_of load_of loaded
-  save-load = rw (done, le-ltb 4096 (number_at 4 s 3) is.count) (λ i. record { verdict = Done; bytes = same_bytes i })
+  save-load = rw (done, le-ltb 4096 (number_at 4 s 3) is.count) (λ i. record { verdict = Ok tt; bytes = same_bytes i })
 
 -- TWO OUTCOMES of a pledge are equal
 pub save_unique : (m : Metadata) (r s : Saved) → Saves m r → Saves m s → r ≡ s

@@ -14,35 +14,36 @@ use Rattle.skiplist.specs.Find.{own_at}
 use Rattle.commands.specs.declared.Metadata.{Metadata}
 use Rattle.labels.specs.declared.Side.{Side}
 use Rattle.proofbytes.specs.declared.read.Fields.{Fields}
-use Rattle.proofbytes.specs.declared.read.Formed.{Formed}
-use Rattle.proofbytes.specs.declared.read.Formed.TheVariants.{Broken, Sound}
+use Rattle.proofbytes.specs.declared.read.Proven.{Proven}
 use Rattle.proofbytes.specs.Reading.{fields_at, entries_from, count_of, Sized, place_of}
 use Rattle.proofbytes.specs.Form.{well_formed, formed_of}
-use Rattle.proofbytes.proofs.FormLaws.{form_sized, formed-broken, Proved, formed-sound}
-use Rattle.gateway.specs.declared.examine.Finding.{Finding}
-use Rattle.gateway.specs.declared.examine.Finding.TheVariants.{Fine, Misread, Misplaced, Mislabelled}
-use Rattle.gateway.specs.Climbing.{climbed, taken, stop_leaf, lesser_of, below_of}
+use Rattle.proofbytes.proofs.FormLaws.{form_sized, formed-none, Proved, formed-some}
+use Rattle.std.specs.Prelude.{Ok, Err, min, Option, None, Some}
+use Rattle.gateway.specs.declared.examine.Fault.{Fault}
+use Rattle.gateway.specs.declared.examine.Fault.TheVariants.{Misread, Misplaced, Mislabelled}
+use Rattle.gateway.specs.Climbing.{climbed, taken, stop_leaf, below_of}
 use Rattle.gateway.specs.Checking.{𝓢, proves, ranked, rooted}
-use Rattle.gateway.specs.Working.{finding_of, screened_of, found_of, recomputed_of}
+use Rattle.gateway.specs.Working.{finding_of, screened_of, recomputed_of}
 use Rattle.gateway.specs.Working.{kept_of, examined_of, Passed}
 use Rattle.gateway.proofs.Climbs.{taken_all, climbed-append}
 use Rattle.gateway.proofs.Exact.{whole_is, entries_split}
+use Rattle.skiplist.proofs.Cases.{never}
 
 -- BEFORE ANYTHING IS HASHED
-pub misread : (s : List ℕ) (p : ℕ) (m : Metadata) {f : Formed} → f ≡ formed_of s → f ≡ Broken → Misread
+pub misread : (s : List ℕ) (p : ℕ) (m : Metadata) {f : Option Proven} → f ≡ formed_of s → f ≡ None → Err Misread
     ≡ screened_of s p m
 unfolding screened_of
-misread s p m e q = sym (rw (formed-broken s (sym e ∙ q)))
+misread s p m e q = sym (rw (formed-none s (sym e ∙ q)))
 
-module _ (s : List ℕ) (p : ℕ) (m : Metadata) {f : Formed} (position rank : ℕ) (e : f ≡ formed_of s)
-    (q : f ≡ Sound position rank) where
+module _ (s : List ℕ) (p : ℕ) (m : Metadata) {f : Option Proven} (position rank : ℕ) (e : f ≡ formed_of s)
+    (q : f ≡ Some (record { position = position; rank = rank })) where
   is : Proved s position rank
-  is = formed-sound s position rank (sym e ∙ q)
+  is = formed-some s (record { position = position; rank = rank }) (sym e ∙ q)
 
   pub sound_sized : Sized s
   sound_sized = form_sized s is.formed
 
-  pub far : (position ≡ p → ⊥) → Misplaced ≡ screened_of s p m
+  pub far : (position ≡ p → ⊥) → Err Misplaced ≡ screened_of s p m
   unfolding screened_of proves
   far n = sym (rw (is.formed, is.position_is, ne_eqb position p n))
 
@@ -55,15 +56,15 @@ module _ (s : List ℕ) (p : ℕ) (m : Metadata) {f : Formed} (position rank : �
     unfolding proves
     proved = rw (is.position_is, eq-eqb position p near, own_is)
 
-    pub unowned : b ≡ false → Misplaced ≡ screened_of s p m
+    pub unowned : b ≡ false → Err Misplaced ≡ screened_of s p m
     unfolding screened_of
     unowned t = sym (rw (is.formed, proved, t))
 
-    pub miscounted : b ≡ true → (rank ≡ m.count → ⊥) → Mislabelled ≡ screened_of s p m
+    pub miscounted : b ≡ true → (rank ≡ m.count → ⊥) → Err Mislabelled ≡ screened_of s p m
     unfolding screened_of ranked
     miscounted t n = sym (rw (is.formed, proved, t, is.rank_is, ne_eqb rank m.count n))
 
-    pub screened : b ≡ true → rank ≡ m.count → Fine ≡ screened_of s p m
+    pub screened : b ≡ true → rank ≡ m.count → Ok tt ≡ screened_of s p m
     unfolding screened_of ranked
     screened t n = sym (rw (is.formed, proved, t, is.rank_is, eq-eqb rank m.count n))
 
@@ -74,33 +75,32 @@ pub record Screened (s : List ℕ) (p : ℕ) (m : Metadata) : Type 0 where
   pub counted : ranked s m ≡ true
 
 module _ (s : List ℕ) (p : ℕ) (m : Metadata) where
-  pub screened-fine : screened_of s p m ≡ Fine → Screened s p m
+  pub screened-fine : screened_of s p m ≡ Ok tt → Screened s p m
   unfolding screened_of
   screened-fine e = go (well_formed s) (proves s p) (ranked s m) refl refl refl e
     where
       go : (x y z : Bool) → well_formed s ≡ x → proves s p ≡ y → ranked s m ≡ z
-          → cond x (cond y (cond z Fine Mislabelled) Misplaced) Misread ≡ Fine → Screened s p m
+          → cond x (cond y (cond z (Ok (tt {0})) (Err Mislabelled)) (Err Misplaced)) (Err Misread) ≡ Ok (tt {0}) → Screened s p m
       go true true true u v w f = record { formed = u; proved = v; counted = w }
-      go true true false u v w f = let z : ◌≡◌ {A = ℕ} 0 1 = cc in absurd (omega arith)
-      go true false z u v w f = let z : ◌≡◌ {A = ℕ} 0 1 = cc in absurd (omega arith)
-      go false y z u v w f = let z : ◌≡◌ {A = ℕ} 0 1 = cc in absurd (omega arith)
+      go true true false u v w f = never cc
+      go true false z u v w f = never cc
+      go false y z u v w f = never cc
 
-  -- a screen that finds something is the finding
-  pub screened-finding : (x : Finding) → screened_of s p m ≡ x → (x ≡ Fine → ⊥) → finding_of s p m ≡ x
+  -- a screen that finds a fault is the finding
+  pub screened-fault : (x : Fault) → screened_of s p m ≡ Err x → finding_of s p m ≡ Err x
   unfolding screened_of finding_of
-  screened-finding x e n = go (well_formed s) (proves s p) (ranked s m) (rooted s m) e
+  screened-fault x e = go (well_formed s) (proves s p) (ranked s m) (rooted s m) e
     where
-      go : (a b c d : Bool) → cond a (cond b (cond c Fine Mislabelled) Misplaced) Misread ≡ x
-          → cond a (cond b (cond (c && d) Fine Mislabelled) Misplaced) Misread ≡ x
-      go true true true d f = absurd (n (sym f))
+      go : (a b c d : Bool) → cond a (cond b (cond c (Ok (tt {0})) (Err Mislabelled)) (Err Misplaced)) (Err Misread) ≡ Err x
+          → cond a (cond b (cond (c && d) (Ok (tt {0})) (Err Mislabelled)) (Err Misplaced)) (Err Misread) ≡ Err x
+      go true true true d f = never cc
       go true true false d f = f
       go true false c d f = f
       go false b c d f = f
 
-  pub found-examined : (f : ℕ) {x y : Finding} → y ≡ screened_of s p m → y ≡ x → (x ≡ Fine → ⊥)
-      → (e : found_of x ≡ kept_of x s f) → found_of x ≡ examined_of s p m f
+  pub fault-examined : (f : ℕ) {x : Fault} → screened_of s p m ≡ Err x → Err x ≡ examined_of s p m f
   unfolding examined_of
-  found-examined f {x} ey q n e = e ∙ ap (λ z. kept_of z s f) (sym (screened-finding x (sym ey ∙ q) n))
+  fault-examined f {x} e = ap (λ z. kept_of z s f) (sym (screened-fault x e))
 
 -- THE LABEL
 pub counted_is : (s : List ℕ) (m : Metadata) → ranked s m ≡ true → proved_rank 𝓢 (place_of s) ≡ m.count
@@ -114,7 +114,7 @@ rooted_is s m e h =
     ap (λ x. same x m.label) (whole_is s (count_of s) (omega (arith, counted_is s m e))).label
 
 -- climbing to a place and on is climbing at once
-module _ (s : List ℕ) (m : Metadata) (f : ℕ) {k at : ℕ} (ek : k ≡ count_of s) (ea : at ≡ lesser_of f k) (low : at ≤ k)
+module _ (s : List ℕ) (m : Metadata) (f : ℕ) {k at : ℕ} (ek : k ≡ count_of s) (ea : at ≡ min f k) (low : at ≤ k)
     {leaf below root : Side}
     (el : leaf ≡ stop_leaf s k) (eb : below ≡ climbed (taken true true (entries_from s at (k - at))) leaf)
     (er : root ≡ climbed (taken true true (entries_from s 0 (at - 0))) below) where
@@ -135,11 +135,11 @@ module _ (s : List ℕ) (m : Metadata) (f : ℕ) {k at : ℕ} (ek : k ≡ count_
       ∙ ap (λ n. climbed (entries_from s 0 n) (stop_leaf s n)) ek)
 
   pub same-root : {b : Bool} → b ≡ same root.label m.label → b ≡ true
-      → record { finding = Fine; below = below } ≡ recomputed_of s m f
+      → Ok below ≡ recomputed_of s m f
   unfolding recomputed_of
   same-root e t = sym (rw (← root_is, sym e ∙ t, below_is))
 
-  pub other_root : {b : Bool} → b ≡ same root.label m.label → b ≡ false → found_of Mislabelled ≡ recomputed_of s m f
+  pub other_root : {b : Bool} → b ≡ same root.label m.label → b ≡ false → Err Mislabelled ≡ recomputed_of s m f
   unfolding recomputed_of
   other_root e t = sym (rw (← root_is, sym e ∙ t))
 
@@ -150,8 +150,7 @@ unfolding recomputed_of examined_of finding_of
 recomputed-examined s p m f h z =
     rw (rooted_is s m z.counted h, z.formed, z.proved, z.counted) (go (rooted s m))
   where
-    go : (b : Bool) → cond b (record { finding = Fine; below = below_of s f }) (found_of Mislabelled)
-        ≡ kept_of (cond b Fine Mislabelled) s f
+    go : (b : Bool) → cond b (Ok (below_of s f)) (Err Mislabelled) ≡ kept_of (cond b (Ok (tt {0})) (Err Mislabelled)) s f
     go true = refl
     go false = refl
 
@@ -162,18 +161,18 @@ pub record Found (s : List ℕ) (p : ℕ) (m : Metadata) : Type 0 where
   pub counted : ranked s m ≡ true
   pub labelled : rooted s m ≡ true
 
-pub finding-fine : (s : List ℕ) (p : ℕ) (m : Metadata) → finding_of s p m ≡ Fine → Found s p m
+pub finding-fine : (s : List ℕ) (p : ℕ) (m : Metadata) → finding_of s p m ≡ Ok tt → Found s p m
 unfolding finding_of
 finding-fine s p m e = go (well_formed s) (proves s p) (ranked s m) (rooted s m) refl refl refl refl e
   where
     go : (a b c d : Bool) → well_formed s ≡ a → proves s p ≡ b → ranked s m ≡ c → rooted s m ≡ d
-        → cond a (cond b (cond (c && d) Fine Mislabelled) Misplaced) Misread ≡ Fine → Found s p m
+        → cond a (cond b (cond (c && d) (Ok (tt {0})) (Err Mislabelled)) (Err Misplaced)) (Err Misread) ≡ Ok (tt {0}) → Found s p m
     go true true true true u v w x f = record { formed = u; proved = v; counted = w; labelled = x }
-    go true true true false u v w x f = let z : ◌≡◌ {A = ℕ} 0 1 = cc in absurd (omega arith)
-    go true true false d u v w x f = let z : ◌≡◌ {A = ℕ} 0 1 = cc in absurd (omega arith)
-    go true false c d u v w x f = let z : ◌≡◌ {A = ℕ} 0 1 = cc in absurd (omega arith)
-    go false b c d u v w x f = let z : ◌≡◌ {A = ℕ} 0 1 = cc in absurd (omega arith)
+    go true true true false u v w x f = never cc
+    go true true false d u v w x f = never cc
+    go true false c d u v w x f = never cc
+    go false b c d u v w x f = never cc
 
-pub fine-passed : (s : List ℕ) (p : ℕ) (m : Metadata) → finding_of s p m ≡ Fine → Passed s m
+pub fine-passed : (s : List ℕ) (p : ℕ) (m : Metadata) → finding_of s p m ≡ Ok tt → Passed s m
 fine-passed s p m e = let z = finding-fine s p m e in record
     { formed = z.formed; counted = counted_is s m z.counted }

@@ -18,7 +18,7 @@ use Rattle.skiplist.specs.Label as label
 use Rattle.skiplist.specs.Equal.{is, item-discrete, side-discrete, same}
 use Rattle.skiplist.specs.Blocks.{item_of}
 use Rattle.skiplist.proofs.EqualLaws.{same_equal, same-true}
-use Rattle.skiplist.proofs.Cases.{both}
+use Rattle.skiplist.proofs.Cases.{both, never}
 use Rattle.proofbytes.specs.declared.read.Fields.{Fields}
 use Rattle.proofbytes.specs.declared.read.Beside.{Beside}
 use Rattle.proofbytes.specs.Writing.{entry_bytes}
@@ -38,7 +38,7 @@ is_test (no n) true f g = absurd (n (g refl))
 is_test (no n) false f g = refl
 
 false-true : {P : Type 0} → false ≡ true → P
-false-true e = let z : ◌≡◌ {A = ℕ} 0 1 = cc in absurd (omega arith)
+false-true e = never cc
 
 agree : (x y : Bool) → (x ≡ true → y ≡ true) → (y ≡ true → x ≡ true) → x ≡ y
 agree true y f g = sym (f refl)

@@ -1,13 +1,15 @@
 -- What the code recomputes, going up from the stop: the model's rules over sides as the code has them. That it is the
 -- model's rank and label where ranks fit 64 bits is proved (Exact).
 -- Assumes nothing.
-use Rattle.std.specs.Prelude.{ℕ, suc, ◌-◌, Bool, false, cond, List, [], ◌∷◌, map, eqb, ltb}
+use Rattle.std.specs.Prelude.{ℕ, suc, ◌-◌, min, Bool, true, false, cond, List, [], ◌∷◌, map, eqb}
 use Rattle.skiplist.specs.Row.{Item}
 use Rattle.skiplist.specs.Entry.{Entry, down, right, pass, Place, map_entry}
 use Rattle.skiplist.specs.Recompute.{push, plug}
 use Rattle.skiplist.specs.Edits.{keeps}
 use Rattle.skiplist.specs.Label as label
 use Rattle.skiplist.specs.Blocks.{item_of}
+use Rattle.gateway.specs.declared.climb.Taken.{Taken}
+use Rattle.gateway.specs.declared.climb.Taken.TheVariants.{All, Downs, Rights, Nothing}
 use Rattle.labels.specs.declared.Side.{Side}
 use Rattle.labels.specs.CodeSides.{no_side, leaf_of, coded}
 use Rattle.proofbytes.specs.declared.read.Beside.{Beside}
@@ -23,6 +25,19 @@ coding e = map_entry of_side e
 -- the side that entries make of the side below them
 abbrev pub climbed : List (Entry label.Side) → Side → Side
 climbed p t = plug coded (map coding p) t
+
+-- does a climb take down entries, and the others?
+abbrev pub takes_downs : Taken → Bool
+takes_downs All = true
+takes_downs Downs = true
+takes_downs Rights = false
+takes_downs Nothing = false
+
+abbrev pub takes_rights : Taken → Bool
+takes_rights All = true
+takes_rights Downs = false
+takes_rights Rights = true
+takes_rights Nothing = false
 
 -- the down entries where `downs`, the right ones where `rights`
 abbrev pub chosen : Bool → Bool → Entry label.Side → Bool
@@ -60,10 +75,7 @@ abbrev pub kept_count : ℕ → List (Entry label.Side) → ℕ
 kept_count h [] = 0
 kept_count h (e ∷ p) = cond (keeps h e) (suc (kept_count h p)) 0
 
-abbrev pub lesser_of : ℕ → ℕ → ℕ
-lesser_of a b = cond (ltb a b) a b
-
 -- what a proof recomputes below its first f entries
 unfoldable pub below_of : List ℕ → ℕ → Side
 below_of s f =
-    climbed (entries_from s (lesser_of f (count_of s)) (count_of s - lesser_of f (count_of s))) (stop_leaf s (count_of s))
+    climbed (entries_from s (min f (count_of s)) (count_of s - min f (count_of s))) (stop_leaf s (count_of s))

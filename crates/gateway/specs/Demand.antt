@@ -2,9 +2,8 @@
 -- exception is a clash: two different messages of equal digest, one hashed in checking what was sent, the other in
 -- labelling the row.
 -- Assumes nothing.
-use Rattle.std.specs.Prelude.{ℕ, ◌≤◌, ◌≡◌, ◌⊎◌, ◌↔◌, List, length}
+use Rattle.std.specs.Prelude.{ℕ, ◌≤◌, ◌≡◌, ◌⊎◌, ◌↔◌, List, length, Ok, Err}
 use Rattle.refusals.specs.declared.Refusal.TheVariants.{NotNeighbours, Repeated}
-use Rattle.refusals.specs.declared.Verdict.TheVariants.{Done, Refused}
 use Rattle.sha256.specs.Hash.{sha256}
 use Rattle.skiplist.specs.Label.{labelled}
 use Rattle.skiplist.specs.Messages.{tree_messages}
@@ -28,7 +27,7 @@ SomeClash m k first second bs = Clash sha256 (gateway_messages m k first second)
 abbrev pub Demand3 : Type 0
 Demand3 = (m : Metadata) (k : Command) (first second : List ℕ) (bs : List Block) → WithinLimits bs → held_side m
     ≡ metadata_of sha256 bs
-    → (gateway_of m k first second).verdict ≡ Done
+    → (gateway_of m k first second).verdict ≡ Ok tt
     → SomeClash m k first second bs
     ⊎ ((held_side (gateway_of m k first second).metadata ≡ metadata_of sha256 (edited (meaning k) bs))
     × ((gateway_of m k first second).tag ≡ tag_at (spot (meaning k)) bs))
@@ -37,18 +36,18 @@ Demand3 = (m : Metadata) (k : Command) (first second : List ℕ) (bs : List Bloc
 abbrev pub NeighboursMeet : Type 0
 NeighboursMeet = (m : Metadata) (k : Command) (first second : List ℕ) (bs : List Block) → WithinLimits bs
     → held_side m ≡ metadata_of sha256 bs
-    → (gateway_of m k first second).verdict ≡ Refused NotNeighbours → SomeClash m k first second bs
+    → (gateway_of m k first second).verdict ≡ Err NotNeighbours → SomeClash m k first second bs
 
 -- ask 4, with any proof: what is refused with 14 comes again, and what is accepted does not
 abbrev pub RepeatsStand : Type 0
 RepeatsStand = (m : Metadata) (k : Command) (first second : List ℕ) (bs : List Block) → WithinLimits bs
     → held_side m ≡ metadata_of sha256 bs
-    → (gateway_of m k first second).verdict ≡ Refused Repeated → SomeClash m k first second bs ⊎ Again bs k
+    → (gateway_of m k first second).verdict ≡ Err Repeated → SomeClash m k first second bs ⊎ Again bs k
 
 abbrev pub AcceptedAnew : Type 0
 AcceptedAnew = (m : Metadata) (k : Command) (first second : List ℕ) (bs : List Block) → WithinLimits bs
     → held_side m ≡ metadata_of sha256 bs
-    → (gateway_of m k first second).verdict ≡ Done → SomeClash m k first second bs ⊎ (Again bs k → ⊥)
+    → (gateway_of m k first second).verdict ≡ Ok tt → SomeClash m k first second bs ⊎ (Again bs k → ⊥)
 
 -- the honest proof for a position: the way to it, written as bytes
 abbrev pub proof_for : ℕ → List Block → List ℕ
@@ -71,4 +70,4 @@ abbrev pub HonestRepeats : Type 0
 HonestRepeats = (m : Metadata) (k : Command) (first second : List ℕ) (bs : List Block) → WithinLimits bs
     → held_side m ≡ metadata_of sha256 bs
     → first ≡ proof_for (first_at (meaning k)) bs → length (way_to (first_at (meaning k)) bs).entries ≤ most_entries
-    → ((gateway_of m k first second).verdict ≡ Refused Repeated) ↔ Again bs k
+    → ((gateway_of m k first second).verdict ≡ Err Repeated) ↔ Again bs k

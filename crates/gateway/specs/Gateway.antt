@@ -1,12 +1,10 @@
 -- THE GATEWAY'S ANSWER to a command with its proofs, as a function of all that it is given. "Gateway: 12, 2, 3, 4,
 -- then 7, 8, 9 on the first proof, the same on the second, then 10"; ask 4: 14 "after 9".
 -- Assumes nothing.
-use Rattle.std.specs.Prelude.{ℕ, ◌≡◌, not, List, [], ◌∷◌, ◌++◌, ltb}
+use Rattle.std.specs.Prelude.{ℕ, ◌≡◌, not, List, [], ◌∷◌, ◌++◌, ltb, Ok}
 use Rattle.refusals.specs.declared.Which.TheVariants.{First, Second}
 use Rattle.refusals.specs.declared.Refusal.TheVariants.{BadMetadata, NotNeighbours, Repeated}
-use Rattle.refusals.specs.declared.Verdict.{Verdict}
-use Rattle.refusals.specs.declared.Verdict.TheVariants.{Done}
-use Rattle.refusals.specs.Order.{Rule, ◌when◌, verdict_of, settled}
+use Rattle.refusals.specs.Order.{Rule, ◌when◌, verdict_of, settled, Verdict}
 use Rattle.skiplist.specs.Limits.{most_blocks}
 use Rattle.skiplist.specs.Edits.{replaced, inserted}
 use Rattle.skiplist.specs.Equal.{side-discrete}
@@ -63,7 +61,7 @@ answered v tag new held = record { verdict = v; tag = settled v tag zeros; metad
 
 -- an acceptance
 abbrev pub accepted_of : List ℕ → Metadata → Answer
-accepted_of tag m = record { verdict = Done; tag = tag; metadata = m }
+accepted_of tag m = record { verdict = Ok tt; tag = tag; metadata = m }
 
 unfoldable pub gateway_of : Metadata → Command → List ℕ → List ℕ → Answer
 gateway_of m k first second =

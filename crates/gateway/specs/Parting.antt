@@ -1,7 +1,7 @@
 -- Delete's meeting and prediction as the code has them, on bytes and on sides already recomputed. That they are the
 -- model's is proved (Meets).
 -- Assumes nothing.
-use Rattle.std.specs.Prelude.{ℕ, zero, suc, ◌+◌, ◌-◌, Bool, true, false, cond, not, ◌&&◌, List, eqb, ltb}
+use Rattle.std.specs.Prelude.{ℕ, zero, suc, ◌+◌, ◌-◌, min, Bool, true, false, cond, not, ◌&&◌, List, eqb, ltb}
 use Rattle.octets.specs.Runs.{part, same}
 use Rattle.skiplist.specs.Entry.{Entry}
 use Rattle.skiplist.specs.Merge.{only_rights, only_downs, merge}
@@ -12,7 +12,7 @@ use Rattle.proofbytes.specs.declared.read.Fields.{Fields}
 use Rattle.proofbytes.specs.declared.read.Beside.{Beside}
 use Rattle.proofbytes.specs.Layout.{entry_size, down_kind}
 use Rattle.proofbytes.specs.Reading.{at, fields_at, beside_at, entries_from, count_of}
-use Rattle.gateway.specs.Climbing.{climbed, item_at, stop_side_of, lesser_of}
+use Rattle.gateway.specs.Climbing.{climbed, item_at, stop_side_of}
 
 -- how many entries from the i-th on are equal, byte for byte, of n in the one proof and m in the other
 unfoldable pub shared_from : List ℕ → List ℕ → ℕ → ℕ → ℕ → ℕ
@@ -60,8 +60,8 @@ only_of false p = only_rights p
 -- from the f-th entry of each on
 unfoldable pub only_from : List ℕ → ℕ → List ℕ → ℕ → ℕ → Bool
 only_from a k b l j =
-    only_rights (entries_from a (lesser_of (j + 1) k) (k - lesser_of (j + 1) k))
-    && only_downs (entries_from b (lesser_of (j + 1) l) (l - lesser_of (j + 1) l))
+    only_rights (entries_from a (min (j + 1) k) (k - min (j + 1) k))
+    && only_downs (entries_from b (min (j + 1) l) (l - min (j + 1) l))
 
 -- is the next entry from below the first's? At equal level the second's, a down one, is lower
 unfoldable pub lower_of : List ℕ → ℕ → ℕ → List ℕ → ℕ → ℕ → Bool
@@ -71,6 +71,6 @@ lower_of a f i b g j = ltb f i && cond (ltb g j) (ltb (fields_at a (i - 1)).leve
 unfoldable pub remains_of : List ℕ → ℕ → List ℕ → ℕ → ℕ → Side
 remains_of a k b l j =
     climbed (entries_from a 0 j)
-    (climbed (merge (entries_from a (lesser_of (j + 1) k) (k - lesser_of (j + 1) k))
-    (entries_from b (lesser_of (j + 1) l) (l - lesser_of (j + 1) l)))
+    (climbed (merge (entries_from a (min (j + 1) k) (k - min (j + 1) k))
+    (entries_from b (min (j + 1) l) (l - min (j + 1) l)))
     (leaf_of (item_at a k) (stop_side_of (beside_at b l))))

@@ -5,24 +5,50 @@ ghost use Rattle.skiplist.specs.Recompute.{push as pushed};
 ghost use Rattle.labels.specs.CodeSides.{coded, node_of};
 ghost use Rattle.proofbytes.specs.Layout.{entry_size, stop_size, down_kind};
 ghost use Rattle.proofbytes.specs.Reading.{at, entry_of, entry_at, entries_from};
-ghost use Rattle.gateway.specs.Climbing.{coding, climbed, taken, push_if, stop_side_of, stop_leaf, lesser_of};
+ghost use Rattle.gateway.specs.Climbing.{coding, climbed, taken, takes_downs, takes_rights, push_if};
+ghost use Rattle.gateway.specs.Climbing.{stop_side_of, stop_leaf};
 
 use labels::Side;
 use proofbytes::DOWN;
 use proofbytes::read::{Beside, Fields};
 
+// Which entries a climb takes: all, those that go down, the others, or none.
+#[derive(Clone, Copy, Debug, PartialEq, Eq)]
+pub enum Taken {
+    All,
+    Downs,
+    Rights,
+    Nothing,
+}
+
+impl Taken {
+    fn takes(self, kind: u8) -> bool
+        ensures { result ≡ cond (eqb kind down_kind) (takes_downs self) (takes_rights self) }
+    {
+        match self {
+            Taken::All => true,
+            Taken::Downs => kind == DOWN,
+            Taken::Rights => kind != DOWN,
+            Taken::Nothing => false,
+        }
+    }
+}
+
 // A stop's right side: empty where its rank is 0.
+// A function and no From: both types are other crates'.
 pub fn stop_side(b: Beside) -> Side
     ensures { result ≡ stop_side_of b }
 {
     if b.rank == 0 {
-        return labels::no_side();
-    }
-    let label = b.label;
-    Side {
-        rank: b.rank,
-        label,
-        empty: false,
+        labels::no_side()
+    } else {
+        // Named first: a literal takes no array straight from another value's field.
+        let label = b.label;
+        Side {
+            rank: b.rank,
+            label,
+            empty: false,
+        }
     }
 }
 
@@ -30,6 +56,7 @@ pub fn stop_side(b: Beside) -> Side
 fn push_down(e: Fields, t: Side) -> Side
     ensures { result ≡ node_of e.level t (record { rank = e.number; label = e.bytes; empty = false }) }
 {
+    // Named first: a literal takes no array straight from another value's field.
     let bytes = e.bytes;
     labels::node(
         e.level,
@@ -46,6 +73,7 @@ fn push_down(e: Fields, t: Side) -> Side
 fn push_right(e: Fields, t: Side) -> Side
     ensures { result ≡ node_of e.level (record { rank = e.number; label = e.bytes; empty = false }) t }
 {
+    // Named first: a literal takes no array straight from another value's field.
     let bytes = e.bytes;
     labels::node(
         e.level,
@@ -62,6 +90,7 @@ fn push_right(e: Fields, t: Side) -> Side
 fn push_entry(e: Fields, t: Side) -> Side
     ensures { result ≡ pushed coded (coding (entry_of e)) t }
 {
+    // The bytes are named first: handed on straight they take more stack.
     let bytes = e.bytes;
     if e.kind == DOWN {
         return push_down(e, t);
@@ -72,40 +101,34 @@ fn push_entry(e: Fields, t: Side) -> Side
     push_right(e, t)
 }
 
-fn takes(kind: u8, downs: bool, rights: bool) -> bool
-    ensures { result ≡ cond (eqb kind down_kind) downs rights }
-{
-    if kind == DOWN { downs } else { rights }
-}
-
 // The i-th entry over t, where it is of a kind to take.
-pub fn push(s: &[u8], i: usize, downs: bool, rights: bool, t: Side) -> Side
+#[inline(never)]
+pub fn push(s: &[u8], i: usize, which: Taken, t: Side) -> Side
     requires { at i + entry_size ≤ length s.now }
-    ensures { result ≡ push_if downs rights (entry_at s.now i) t }
+    ensures { result ≡ push_if (takes_downs which) (takes_rights which) (entry_at s.now i) t }
 {
     let e = proofbytes::read::entry_at(s, i);
-    if takes(e.kind, downs, rights) {
+    if which.takes(e.kind) {
         push_entry(e, t)
     } else {
         t
     }
 }
 
-// The entries from..to over t, from the last upwards; those that go down, and the others, where asked.
-pub fn fold(s: &[u8], from: usize, to: usize, downs: bool, rights: bool, t: Side) -> Side
+// The entries from..to over t, from the last upwards, where they are of a kind to take.
+pub fn fold(s: &[u8], from: usize, to: usize, which: Taken, t: Side) -> Side
     requires { (from ≤ to) × (at to ≤ length s.now) }
-    ensures { result ≡ climbed (taken downs rights (entries_from s.now from (to - from))) t }
+    ensures { result ≡ climbed (taken (takes_downs which) (takes_rights which) (entries_from s.now from (to - from))) t }
 {
     let mut a = t;
-    let mut i = to;
-    while from < i {
-        i -= 1;
-        a = push(s, i, downs, rights, a);
+    for i in (from..to).rev() {
+        a = push(s, i, which, a);
     }
     a
 }
 
 // The leaf of the stop after k entries.
+// k counts the entries; it is worked out once and handed down.
 #[inline(never)]
 pub fn stop_leaf(s: &[u8], k: usize) -> Side
     requires { at k + stop_size ≤ length s.now }
@@ -113,12 +136,5 @@ pub fn stop_leaf(s: &[u8], k: usize) -> Side
 {
     let e = proofbytes::read::entry_at(s, k);
     let b = proofbytes::read::beside_at(s, k);
-    let tag = e.bytes;
-    labels::leaf(e.number, tag, stop_side(b))
-}
-
-pub fn lesser(a: usize, b: usize) -> usize
-    ensures { (result ≡ lesser_of a b) × (result ≤ a) × (result ≤ b) }
-{
-    if a < b { a } else { b }
+    labels::leaf(e.number, e.bytes, stop_side(b))
 }

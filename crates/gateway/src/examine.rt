@@ -5,103 +5,79 @@ ghost use Rattle.std.specs.Prelude.{◌≡◌, ◌≤◌, eqb};
 ghost use Rattle.skiplist.specs.Find.{own_at};
 ghost use Rattle.skiplist.specs.Limits.{most_blocks};
 ghost use Rattle.proofbytes.specs.Reading.{Sized};
-ghost use Rattle.gateway.specs.Working.{screened_of, found_of, recomputed_of, examined_of};
+ghost use Rattle.gateway.specs.Working.{screened_of, recomputed_of, examined_of};
 
-use crate::climb::{fold, lesser, stop_leaf};
+use crate::climb::{Taken, fold, stop_leaf};
 use commands::Metadata;
 use labels::Side;
-use proofbytes::read::Formed;
+use proofbytes::read::Proven;
 
-// Nothing against the proof, or 7, 8, 9 of it.
-#[derive(Clone, Copy)]
-pub enum Finding {
-    Fine,
+// What is wrong with a proof: 7, 8, 9.
+#[derive(Clone, Copy, Debug, PartialEq, Eq)]
+pub enum Fault {
     Misread,
     Misplaced,
     Mislabelled,
 }
 
-#[derive(Clone, Copy)]
-pub struct Examined {
-    pub finding: Finding,
-    pub below: Side,
-}
-
 // The stop's own is 1, and 0 for position 0.
+// own is a number, as the bytes have it.
 fn own_fits(own: u64, p: u64) -> bool
     ensures { result ≡ eqb own (own_at p) }
 {
-    if p == 0 {
-        return own == 0;
-    }
-    own == 1
+    if p == 0 { own == 0 } else { own == 1 }
 }
 
 // What is found without hashing: form, position, rank.
-pub fn screen(s: &[u8], p: u64, m: Metadata) -> Finding
+// A match around the tests: with `?` and the tests after it the call takes more stack.
+pub fn screen(s: &[u8], p: u64, m: Metadata) -> Result<(), Fault>
     ensures { result ≡ screened_of s.now p m }
 {
     let f = proofbytes::read::form(s);
     match f {
-        Formed::Broken => Finding::Misread,
-        Formed::Sound { position, rank } => {
+        None => Err(Fault::Misread),
+        Some(Proven { position, rank }) => {
             if position != p {
-                return Finding::Misplaced;
+                return Err(Fault::Misplaced);
             }
             let e = proofbytes::read::entry_at(s, proofbytes::read::entry_count(s));
             if !own_fits(e.number, p) {
-                return Finding::Misplaced;
+                return Err(Fault::Misplaced);
             }
             if rank != m.count {
-                return Finding::Mislabelled;
+                return Err(Fault::Mislabelled);
             }
-            Finding::Fine
+            Ok(())
         }
-    }
-}
-
-pub fn found(finding: Finding) -> Examined
-    ensures { result ≡ found_of finding }
-{
-    Examined {
-        finding,
-        below: labels::no_side(),
     }
 }
 
 // The root's label against the one held, for bytes that passed the screen; what is recomputed below the first f
 // entries is kept.
-fn recompute(s: &[u8], m: Metadata, f: usize) -> Examined
+fn recompute(s: &[u8], m: Metadata, f: usize) -> Result<Side, Fault>
     requires { Sized s.now }
     ensures { result ≡ recomputed_of s.now m f }
 {
     let k = proofbytes::read::entry_count(s);
-    let at = lesser(f, k);
-    let below = fold(s, at, k, true, true, stop_leaf(s, k));
-    let root = fold(s, 0, at, true, true, below);
+    let at = f.min(k);
+    let below = fold(s, at, k, Taken::All, stop_leaf(s, k));
+    let root = fold(s, 0, at, Taken::All, below);
+    // The labels are named first: compared as fields they take more stack.
     let label = root.label;
     let held = m.label;
-    if octets::same32(label, held) {
-        Examined {
-            finding: Finding::Fine,
-            below,
-        }
+    if label == held {
+        Ok(below)
     } else {
-        found(Finding::Mislabelled)
+        Err(Fault::Mislabelled)
     }
 }
 
-// One proof for position p against m. Where nothing is found, `below` is what it recomputes below its first f
-// entries.
-pub fn examine(s: &[u8], p: u64, m: Metadata, f: usize) -> Examined
+// One proof for position p against m, and what it recomputes below its first f entries.
+// Metadata, position and proof are what a command brings; nothing binds them before this check.
+pub fn examine(s: &[u8], p: u64, m: Metadata, f: usize) -> Result<Side, Fault>
     requires { m.count ≤ most_blocks }
     ensures { result ≡ examined_of s.now p m f }
 {
-    let x = screen(s, p, m);
-    match x {
-        Finding::Fine => recompute(s, m, f),
-        Finding::Misread => found(Finding::Misread),
-        Finding::Misplaced => found(Finding::Misplaced),
-        Finding::Mislabelled => found(Finding::Mislabelled),
-    }
+    screen(s, p, m)?;
+    recompute(s, m, f)
 }

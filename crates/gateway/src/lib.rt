@@ -1,8 +1,7 @@
 //! The gateway: metadata saved and loaded, and the check of a command with its proofs.
 #![tactic(auto)]
 
-ghost use Rattle.std.specs.Prelude.{◌≡◌, true, [], ◌+◌, ◌≤◌};
-ghost use Rattle.refusals.specs.declared.Verdict.TheVariants.{Done};
+ghost use Rattle.std.specs.Prelude.{◌≡◌, true, [], ◌+◌, ◌≤◌, Ok};
 ghost use Rattle.refusals.specs.Order.{verdict_of};
 ghost use Rattle.skiplist.specs.Limits.{most_blocks};
 ghost use Rattle.skiplist.specs.Recompute.{proved_rank};
@@ -11,16 +10,14 @@ ghost use Rattle.commands.specs.declared.Operation.TheVariants.{Insert};
 ghost use Rattle.proofbytes.specs.Reading.{Sized, place_of};
 ghost use Rattle.proofbytes.specs.Form.{well_formed};
 ghost use Rattle.gateway.specs.Checking.{𝓢};
-ghost use Rattle.gateway.specs.Climbing.{below_of};
-ghost use Rattle.gateway.specs.Parting.{shared_of};
-ghost use Rattle.gateway.specs.Working.{finding_of, blamed, Passed};
+ghost use Rattle.gateway.specs.Working.{finding_of, refusal_of, blamed};
 ghost use Rattle.gateway.specs.Gateway.{opening_rules, accepted_of, replaced_of};
-ghost use Rattle.gateway.specs.Working.{metadata_from, refused_of};
-ghost use Rattle.gateway.specs.Gateway.{later_rules, inserted_of, Checks};
-ghost use Rattle.gateway.specs.Working.{one_of, after_both, after_first, deleted_of, worked_of};
+ghost use Rattle.gateway.specs.Working.{metadata_from, refused_of, answer_with};
+ghost use Rattle.gateway.specs.Gateway.{later_rules, inserted_of, gateway_of, Checks};
+ghost use Rattle.gateway.specs.Working.{one_of, deleted_of, worked_of};
 
-use crate::examine::Finding;
-use commands::{Command, Metadata, Operation};
+use crate::examine::Fault;
+use commands::{Command, MOST_BLOCKS, Metadata, Operation};
 use labels::Side;
 use refusals::{Refusal, Verdict, Which};
 
@@ -30,9 +27,8 @@ mod meeting;
 mod predict;
 pub mod saved;
 
-const MOST_BLOCKS: u64 = 4096;
-
 // What the gateway answers: the tag at the command's position before the edit, and the new metadata.
+// A struct and no Result: a refusal gives back the metadata that was given.
 #[derive(Clone, Copy)]
 pub struct Answer {
     pub verdict: Verdict,
@@ -40,36 +36,57 @@ pub struct Answer {
     pub metadata: Metadata,
 }
 
+// What a command gives that is accepted: the tag at its position before the edit, and the new metadata.
+#[derive(Clone, Copy)]
+struct Accepted {
+    tag: [u8; 32],
+    metadata: Metadata,
+}
+
 // A refusal returns the metadata given and a zero tag.
 pub fn refused(m: Metadata, why: Refusal) -> Answer
     ensures { result ≡ refused_of m why }
 {
     Answer {
-        verdict: Verdict::Refused(why),
+        verdict: Err(why),
         tag: [0u8; 32],
         metadata: m,
     }
 }
 
-fn accepted(tag: [u8; 32], m: Metadata) -> Answer
-    ensures { result ≡ accepted_of tag m }
-{
-    Answer {
-        verdict: Verdict::Done,
-        tag,
-        metadata: m,
+impl From<Accepted> for Answer {
+    ghost from_gives = { λ a r. r ≡ accepted_of a.tag a.metadata };
+
+    fn from(a: Accepted) -> Answer {
+        // Named first: a literal takes no array straight from another value's field.
+        let tag = a.tag;
+        Answer {
+            verdict: Ok(()),
+            tag,
+            metadata: a.metadata,
+        }
     }
 }
 
 // 7, 8 and 9 with the proof that they speak of.
-pub fn blame(f: Finding, w: Which) -> Verdict
-    ensures { result ≡ blamed w f }
+// A function and no From: the proof is told beside the fault.
+pub fn refusal(f: Fault, w: Which) -> Refusal
+    ensures { result ≡ refusal_of w f }
 {
     match f {
-        Finding::Fine => Verdict::Done,
-        Finding::Misread => Verdict::Refused(Refusal::BadProof(w)),
-        Finding::Misplaced => Verdict::Refused(Refusal::WrongPosition(w)),
-        Finding::Mislabelled => Verdict::Refused(Refusal::WrongLabel(w)),
+        Fault::Misread => Refusal::BadProof(w),
+        Fault::Misplaced => Refusal::WrongPosition(w),
+        Fault::Mislabelled => Refusal::WrongLabel(w),
+    }
+}
+
+// What is found of one proof, as a verdict that says which proof.
+pub fn blame(found: Result<(), Fault>, w: Which) -> Verdict
+    ensures { result ≡ blamed w found }
+{
+    match found {
+        Ok(()) => Ok(()),
+        Err(f) => Err(refusal(f, w)),
     }
 }
 
@@ -80,15 +97,19 @@ pub fn shown(s: &[u8]) -> [u8; 32]
     ensures { result ≡ shown_is (place_of s.now).item }
 {
     let e = proofbytes::read::entry_at(s, proofbytes::read::entry_count(s));
+    // The zeros are returned at once: as two values of one `if` the tags take more stack.
     if e.number == 0 {
         return [0u8; 32];
     }
     e.bytes
 }
 
+// A root's count and label.
+// A function and no From: both types are other crates'.
 fn metadata_of(x: Side) -> Metadata
     ensures { result ≡ metadata_from x }
 {
+    // Named first: a literal takes no array straight from another value's field.
     let label = x.label;
     Metadata {
         count: x.rank,
@@ -97,43 +118,41 @@ fn metadata_of(x: Side) -> Metadata
 }
 
 // The checks of one proof, for position p.
+// Metadata itself may hold any count, since a refusal gives back what was given; so the limit is asked for here.
 #[inline(never)]
 pub fn proof_verdict(w: Which, m: Metadata, p: u64, s: &[u8]) -> Verdict
     requires { m.count ≤ most_blocks }
     ensures { result ≡ blamed w (finding_of s.now p m) }
 {
-    let x = examine::examine(s, p, m, 0);
-    let f = x.finding;
-    blame(f, w)
+    examine::examine(s, p, m, 0).map_err(|f| refusal(f, w))?;
+    Ok(())
 }
 
 // "Read p: reports the tag, metadata stays."
 #[inline(never)]
-fn read(m: Metadata, p: u64, s: &[u8]) -> Answer
+fn read(m: Metadata, p: u64, s: &[u8]) -> Result<Accepted, Refusal>
     requires { m.count ≤ most_blocks }
-    ensures { result ≡ one_of m p s.now [] m }
+    ensures { answer_with m result ≡ one_of m p s.now [] m }
 {
-    let v = proof_verdict(Which::First, m, p, s);
-    match v {
-        Verdict::Refused(why) => refused(m, why),
-        Verdict::Done => accepted(shown(s), m),
-    }
+    proof_verdict(Which::First, m, p, s)?;
+    Ok(Accepted {
+        tag: shown(s),
+        metadata: m,
+    })
 }
 
 // "Replace p by a tag": the new tag in the stop.
 #[inline(never)]
-fn replace(m: Metadata, p: u64, tag: [u8; 32], s: &[u8]) -> Answer
+fn replace(m: Metadata, p: u64, tag: [u8; 32], s: &[u8]) -> Result<Accepted, Refusal>
     requires { m.count ≤ most_blocks }
-    ensures { result ≡ one_of m p s.now [] (replaced_of tag s.now) }
+    ensures { answer_with m result ≡ one_of m p s.now [] (replaced_of tag s.now) }
 {
-    let v = proof_verdict(Which::First, m, p, s);
-    match v {
-        Verdict::Refused(why) => refused(m, why),
-        Verdict::Done => {
-            let x = predict::replace(s, proofbytes::read::entry_count(s), tag);
-            accepted(shown(s), metadata_of(x))
-        }
-    }
+    proof_verdict(Which::First, m, p, s)?;
+    let x = predict::replace(s, tag);
+    Ok(Accepted {
+        tag: shown(s),
+        metadata: metadata_of(x),
+    })
 }
 
 // Insert's answer from a proof that passed.
@@ -141,86 +160,58 @@ pub fn inserted(height: u8, tag: [u8; 32], s: &[u8]) -> Answer
     requires { (well_formed s.now ≡ true) × (proved_rank 𝓢 (place_of s.now) ≤ most_blocks) }
     ensures { result ≡ accepted_of (shown_is (place_of s.now).item) (inserted_of height tag s.now) }
 {
-    let x = predict::insert(s, proofbytes::read::entry_count(s), height, tag);
-    accepted(shown(s), metadata_of(x))
+    let x = predict::insert(s, height, tag);
+    let a = Accepted {
+        tag: shown(s),
+        metadata: metadata_of(x),
+    };
+    a.into()
 }
 
 // "Insert after p a tag with a height": not the tag at p.
 #[inline(never)]
-fn insert(m: Metadata, p: u64, height: u8, tag: [u8; 32], s: &[u8]) -> Answer
+fn insert(m: Metadata, p: u64, height: u8, tag: [u8; 32], s: &[u8]) -> Result<Accepted, Refusal>
     requires { m.count ≤ most_blocks }
-    ensures { result ≡ one_of m p s.now (later_rules Insert m p tag s.now [])
+    ensures { answer_with m result ≡ one_of m p s.now (later_rules Insert m p tag s.now [])
         (inserted_of height tag s.now) }
 {
-    let v = proof_verdict(Which::First, m, p, s);
-    match v {
-        Verdict::Refused(why) => refused(m, why),
-        Verdict::Done => {
-            if commands::repeated(p, tag, shown(s)) {
-                return refused(m, Refusal::Repeated);
-            }
-            inserted(height, tag, s)
-        }
+    proof_verdict(Which::First, m, p, s)?;
+    if commands::repeated(p, tag, shown(s)) {
+        return Err(Refusal::Repeated);
     }
-}
-
-// Delete, once both proofs have passed: they share j entries, and u and v are what they recompute below the parting.
-fn after_both(m: Metadata, a: &[u8], u: Side, b: &[u8], v: Side, j: usize) -> Answer
-    requires { (m.count ≤ most_blocks) × Passed a.now m × Passed b.now m × (j ≡ shared_of a.now b.now)
-        × (u ≡ below_of a.now (j + 1)) × (v ≡ below_of b.now (j + 1)) }
-    ensures { result ≡ after_both m a.now b.now }
-{
-    let k = proofbytes::read::entry_count(a);
-    let l = proofbytes::read::entry_count(b);
-    if !meeting::meet(a, k, b, l, j, u, v) {
-        return refused(m, Refusal::NotNeighbours);
-    }
-    let x = meeting::remain(a, k, b, l, j);
-    accepted(shown(b), metadata_of(x))
-}
-
-// Delete, once the first proof has passed: u is what it recomputes below the parting.
-fn after_first(m: Metadata, p: u64, a: &[u8], u: Side, b: &[u8], j: usize) -> Answer
-    requires { (m.count ≤ most_blocks) × Passed a.now m × (j ≡ shared_of a.now b.now)
-        × (u ≡ below_of a.now (j + 1)) }
-    ensures { result ≡ after_first m p a.now b.now }
-{
-    let y = examine::examine(b, p, m, j + 1);
-    let f = y.finding;
-    let v = blame(f, Which::Second);
-    match v {
-        Verdict::Refused(why) => refused(m, why),
-        Verdict::Done => {
-            let below = y.below;
-            after_both(m, a, u, b, below, j)
-        }
-    }
+    // Made here and not by a function that `inserted` shares: that takes 64 bytes more of the check's 2,048.
+    let x = predict::insert(s, height, tag);
+    Ok(Accepted {
+        tag: shown(s),
+        metadata: metadata_of(x),
+    })
 }
 
 // "Delete p: two proofs, first for p - 1, second for p." The parting is found by bytes first, so that what is
 // recomputed below it can be kept.
 #[inline(never)]
-fn delete(m: Metadata, p: u64, a: &[u8], b: &[u8]) -> Answer
+fn delete(m: Metadata, p: u64, a: &[u8], b: &[u8]) -> Result<Accepted, Refusal>
     requires { (m.count ≤ most_blocks) × (1 ≤ p) }
-    ensures { result ≡ deleted_of m p a.now b.now }
+    ensures { answer_with m result ≡ deleted_of m p a.now b.now }
 {
     let j = meeting::shared(a, b);
-    let x = examine::examine(a, p - 1, m, j + 1);
-    let f = x.finding;
-    let v = blame(f, Which::First);
-    match v {
-        Verdict::Refused(why) => refused(m, why),
-        Verdict::Done => {
-            let below = x.below;
-            after_first(m, p, a, below, b, j)
-        }
+    let u = examine::examine(a, p - 1, m, j + 1).map_err(|f| refusal(f, Which::First))?;
+    let v = examine::examine(b, p, m, j + 1).map_err(|f| refusal(f, Which::Second))?;
+    if !meeting::meet(a, b, j, u, v) {
+        return Err(Refusal::NotNeighbours);
     }
+    let rest = meeting::remain(a, b, j);
+    Ok(Accepted {
+        tag: shown(b),
+        metadata: metadata_of(rest),
+    })
 }
 
-fn work(m: Metadata, k: Command, first: &[u8], second: &[u8]) -> Answer
-    requires { verdict_of (opening_rules m k) ≡ Done }
-    ensures { result ≡ worked_of m k first.now second.now }
+fn work(m: Metadata, k: Command, first: &[u8], second: &[u8]) -> Result<Accepted, Refusal>
+    requires { verdict_of (opening_rules m k) ≡ Ok tt }
+    ensures { answer_with m result ≡ worked_of m k first.now second.now }
 {
+    // The fields are named first: handed on straight they take more stack.
     let o = k.operation;
     let p = k.position;
     let tag = k.tag;
@@ -236,11 +227,18 @@ fn work(m: Metadata, k: Command, first: &[u8], second: &[u8]) -> Answer
 pub fn opened(m: Metadata, k: Command) -> Verdict
     ensures { result ≡ verdict_of (opening_rules m k) }
 {
-    let count = m.count;
-    if MOST_BLOCKS < count {
-        return Verdict::Refused(Refusal::BadMetadata);
+    if MOST_BLOCKS < m.count {
+        return Err(Refusal::BadMetadata);
     }
-    commands::admitted(k, count)
+    commands::admitted(k, m.count)
+}
+
+// The checks in their order, and what the command gives where none refuses.
+fn checked(m: Metadata, k: Command, first: &[u8], second: &[u8]) -> Result<Accepted, Refusal>
+    ensures { answer_with m result ≡ gateway_of m k first.now second.now }
+{
+    opened(m, k)?;
+    work(m, k, first, second)
 }
 
 // The gateway's check of a command. What rides along is not looked at: a height with another command than Insert, a
@@ -248,9 +246,8 @@ pub fn opened(m: Metadata, k: Command) -> Verdict
 pub fn check(m: Metadata, k: Command, first: &[u8], second: &[u8]) -> Answer
     ensures { Checks m k first.now second.now result }
 {
-    let v = opened(m, k);
-    match v {
-        Verdict::Refused(why) => refused(m, why),
-        Verdict::Done => work(m, k, first, second),
+    match checked(m, k, first, second) {
+        Ok(a) => a.into(),
+        Err(why) => refused(m, why),
     }
 }

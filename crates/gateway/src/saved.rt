@@ -2,8 +2,7 @@
 ghost use Rattle.std.specs.Prelude.{◌≡◌, length};
 ghost use Rattle.gateway.specs.Saving.{saved_bytes, saved_size, as_stated, Saves, Loads};
 
-use crate::MOST_BLOCKS;
-use commands::Metadata;
+use commands::{MOST_BLOCKS, Metadata};
 use refusals::{Refusal, Verdict};
 
 const SAVED_VERSION: u64 = 1;
@@ -18,6 +17,7 @@ const COUNT_PLACE: usize = 3;
 
 const LABEL_PLACE: usize = 7;
 
+// Structs and no Results: the pledges say what stands in each field after a refusal too.
 #[derive(Clone, Copy)]
 pub struct Saved {
     pub verdict: Verdict,
@@ -35,11 +35,10 @@ fn put_saved(d: &mut [u8], m: Metadata)
     requires { (length d.old ≡ saved_size) × (length m.label ≡ 32) }
     ensures { d.new ≡ saved_bytes m }
 {
-    let label = m.label;
-    octets::put_one(d, 0, SAVED_VERSION);
-    octets::put_two(d, REST_PLACE, SAVED_REST);
-    octets::put_four(d, COUNT_PLACE, m.count);
-    octets::copy(d, LABEL_PLACE, &label);
+    octets::put_number::<1>(d, 0, SAVED_VERSION);
+    octets::put_number::<2>(d, REST_PLACE, SAVED_REST);
+    octets::put_number::<4>(d, COUNT_PLACE, m.count);
+    octets::copy(d, LABEL_PLACE, &m.label);
 }
 
 // Metadata saved; 12 and 39 zero bytes for a count over 4,096.
@@ -50,13 +49,13 @@ pub fn save(m: Metadata) -> Saved
     let mut bytes = [0u8; 39];
     if MOST_BLOCKS < m.count {
         return Saved {
-            verdict: Verdict::Refused(Refusal::BadMetadata),
+            verdict: Err(Refusal::BadMetadata),
             bytes,
         };
     }
     put_saved(&mut bytes, m);
     Saved {
-        verdict: Verdict::Done,
+        verdict: Ok(()),
         bytes,
     }
 }
@@ -66,16 +65,10 @@ pub fn save(m: Metadata) -> Saved
 fn as_stated(s: &[u8]) -> bool
     ensures { result ≡ as_stated s.now }
 {
-    if s.len() != SAVED_SIZE {
-        return false;
-    }
-    if octets::one_at(s, 0) != SAVED_VERSION {
-        return false;
-    }
-    if octets::two_at(s, REST_PLACE) != SAVED_REST {
-        return false;
-    }
-    octets::four_at(s, COUNT_PLACE) <= MOST_BLOCKS
+    s.len() == SAVED_SIZE
+        && octets::number_at::<1>(s, 0) == SAVED_VERSION
+        && octets::number_at::<2>(s, REST_PLACE) == SAVED_REST
+        && octets::number_at::<4>(s, COUNT_PLACE) <= MOST_BLOCKS
 }
 
 // Metadata from saved bytes; 12, count 0 and a zero label for any others.
@@ -83,18 +76,19 @@ pub fn load(s: &[u8]) -> Loaded
     ensures { Loads s.now result }
 {
     if as_stated(s) {
-        let count = octets::four_at(s, COUNT_PLACE);
-        let label = octets::bytes32(s, LABEL_PLACE);
-        return Loaded {
-            verdict: Verdict::Done,
+        let count = octets::number_at::<4>(s, COUNT_PLACE);
+        let label = octets::bytes_at(s, LABEL_PLACE);
+        Loaded {
+            verdict: Ok(()),
             metadata: Metadata { count, label },
-        };
-    }
-    Loaded {
-        verdict: Verdict::Refused(Refusal::BadMetadata),
-        metadata: Metadata {
-            count: 0,
-            label: [0u8; 32],
-        },
+        }
+    } else {
+        Loaded {
+            verdict: Err(Refusal::BadMetadata),
+            metadata: Metadata {
+                count: 0,
+                label: [0u8; 32],
+            },
+        }
     }
 }

@@ -7,7 +7,7 @@ use mathlib.Core.Bool.{Bool, true, false, ◌&&◌}
 use mathlib.Core.List.{List}
 use lib.Dec.{leb, ltb}
 use lib.ListN.{length, get_or}
-use borrow.Author.Tests.{lt-leb, leb-true}
+use borrow.Author.Tests.{leb-true}
 use Rattle.skiplist.proofs.Cases.{both}
 use Rattle.jointbytes.specs.Reading.{ahead}
 
@@ -31,6 +31,3 @@ pub ahead_none : (n : ℕ) (s : List ℕ) (a : ℕ) → is_entry s a ≡ false �
 unfolding ahead
 ahead_none zero s a e = refl
 ahead_none (suc n) s a e = rw e refl
-
-pub ahead_end : (n : ℕ) (s : List ℕ) (a : ℕ) → length s ≤ a → ahead n s a ≡ 0
-ahead_end n s a l = ahead_none n s a (rw (lt-leb (a + 38) (length s) (omega arith)) refl)

@@ -1,55 +1,51 @@
 -- The positions of a set, looked at one after the other.
 -- Assumes nothing.
-use Prim.Native.Nat.{ℕ, ◌+◌, ◌-◌, ◌≤◌, ◌<◌}
+use Prim.Native.Nat.{ℕ, zero, suc, ◌+◌, ◌≤◌, ◌<◌}
 use native.Mathlib.Omega.{arith}
 use native.Mathlib.Numerals.{add-one}
-use mathlib.Core.Path.{◌≡◌, refl}
-use mathlib.Core.Bool.{true, false, ◌&&◌}
+use mathlib.Core.Path.{◌≡◌, refl, sym, ap}
+use mathlib.Core.Bool.{Bool, true, false, ◌&&◌}
 use mathlib.Core.List.{List, [], ◌∷◌}
-use lib.Dec.{leb}
-use lib.ListN.{length, get_or, drop, drop_of_length-le}
-use lib.Seq.{drop-cons}
-use borrow.Author.Tests.{lt-ltb, le-ltb, le-leb, lt-leb, leb-true}
+use lib.Dec.{leb, ltb}
+use lib.ListN.{length}
+use borrow.Author.Tests.{lt-ltb, le-ltb, leb-true}
+use Rattle.std.specs.Prelude.{MatchBool, slice_index}
+use Rattle.jointbytes.proofs.RecordLaws.{and-false}
 use Rattle.skiplist.proofs.Cases.{both}
-use Rattle.jointbytes.specs.Positions.{rises, rising, is_set, within}
+use Rattle.jointbytes.specs.Positions.{rises, rising, is_set}
 
-pub rising_start : (ps : List ℕ) → rising ps ≡ rises (get_or ps (1 - 1) 0) (drop 1 ps)
+-- of each two neighbours the later one is above, or of some two it is not
+abbrev pub Up : List ℕ → ℕ → Type 0
+Up ps k = slice_index ps k < slice_index ps (k + 1)
+
+abbrev pub NotUp : List ℕ → ℕ → Type 0
+NotUp ps k = (k + 1 < length ps) × (slice_index ps (k + 1) ≤ slice_index ps k)
+
+up_further : (p : ℕ) (ps : List ℕ) (k : ℕ) → slice_index (p ∷ ps) (suc k + 1) ≡ slice_index ps (k + 1)
+up_further p ps k =
+    let e : suc k + 1 ≡ suc (k + 1) = omega (arith, add-one k, add-one (suc k), add-one (k + 1)) in
+    ap (slice_index (p ∷ ps)) e
+
+up : (p : ℕ) (ps : List ℕ) → ((k : ℕ) → k + 1 < length (p ∷ ps) → Up (p ∷ ps) k) → rises p ps ≡ true
 unfolding rises
-rising_start [] = refl
-rising_start (p ∷ ps) = refl
+up p [] h = refl
+up p (q ∷ ps) h =
+    rw (lt-ltb p q (h 0 (omega arith)))
+    (up q ps (λ k l. omega (arith, h (suc k) (omega (arith, add-one k)), up_further p (q ∷ ps) k)))
 
-module _ (ps : List ℕ) (i : ℕ) where
-  pub rises_more : i < length ps → get_or ps (i - 1) 0 < get_or ps i 0
-      → rises (get_or ps (i - 1) 0) (drop i ps) ≡ rises (get_or ps (i + 1 - 1) 0) (drop (i + 1) ps)
-  unfolding rises
-  rises_more l t =
-      let e : i + 1 - 1 ≡ i = omega arith in
-      rw (drop-cons ps i 0 l, e, add-one, lt-ltb _ _ t) refl
+not_up : (p : ℕ) (ps : List ℕ) (k : ℕ) → NotUp (p ∷ ps) k → rises p ps ≡ false
+unfolding rises
+not_up p [] k h = absurd (omega (arith, h.0))
+not_up p (q ∷ ps) zero h = rw (le-ltb p q h.1)
+not_up p (q ∷ ps) (suc k) h =
+    rw (not_up q ps k (omega (arith, h.0, add-one k), omega (arith, h.1, up_further p (q ∷ ps) k))) (and-false (ltb p q))
 
-  pub rises_not : i < length ps → get_or ps i 0 ≤ get_or ps (i - 1) 0 → rises (get_or ps (i - 1) 0) (drop i ps) ≡ false
-  unfolding rises
-  rises_not l t = rw (drop-cons ps i 0 l, le-ltb _ _ t) refl
-
-  pub rises_end : length ps ≤ i → rises (get_or ps (i - 1) 0) (drop i ps) ≡ true
-  unfolding rises
-  rises_end l = rw (drop_of_length-le ps l) refl
-
-module _ (n : ℕ) (ps : List ℕ) (i : ℕ) where
-  pub within_more : i < length ps → 1 ≤ get_or ps i 0 → get_or ps i 0 ≤ n → within n (drop i ps) ≡ within n (drop (i + 1) ps)
-  unfolding within
-  within_more l a b = rw (drop-cons ps i 0 l, add-one, le-leb _ _ a, le-leb _ _ b) refl
-
-  pub within_low : i < length ps → get_or ps i 0 < 1 → within n (drop i ps) ≡ false
-  unfolding within
-  within_low l a = rw (drop-cons ps i 0 l, lt-leb _ _ a) refl
-
-  pub within_high : i < length ps → 1 ≤ get_or ps i 0 → n < get_or ps i 0 → within n (drop i ps) ≡ false
-  unfolding within
-  within_high l a b = rw (drop-cons ps i 0 l, le-leb _ _ a, lt-leb _ _ b) refl
-
-  pub within_end : length ps ≤ i → within n (drop i ps) ≡ true
-  unfolding within
-  within_end l = rw (drop_of_length-le ps l) refl
+pub rising_is : (ps : List ℕ) (b : Bool)
+    → MatchBool b ((k : ℕ) → k + 1 < length ps → Up ps k) ((k : ℕ) × NotUp ps k) → b ≡ rising ps
+rising_is [] true h = refl
+rising_is (p ∷ ps) true h = sym (up p ps h)
+rising_is [] false h = absurd (omega (arith, h.1.0))
+rising_is (p ∷ ps) false h = sym (not_up p ps h.0 h.1)
 
 pub set_some : (ps : List ℕ) → is_set ps ≡ true → 1 ≤ length ps
 set_some ps e = leb-true 1 (length ps) (both (leb 1 (length ps)) (leb (length ps) 32 && rising ps) e).0

@@ -18,7 +18,7 @@ use Rattle.jointbytes.specs.Proper.{EntryRecords}
 use Rattle.jointbytes.specs.declared.read.Piece.{Piece}
 use Rattle.jointbytes.proofs.CommonLaws.{entries_long, length-joined}
 
-and-false : (t : Bool) → t && false ≡ false
+pub and-false : (t : Bool) → t && false ≡ false
 and-false true = refl
 and-false false = refl
 

@@ -54,6 +54,9 @@ headed m s e =
       number = eqb-true (get_or s 5 0) m c.1;
     }
 
+pub head_long : (m : ℕ) (s : List ℕ) → head_fits m s ≡ true → 6 ≤ length s
+head_long m s e = (headed m s e).long
+
 pub record Formed (m : ℕ) (s : List ℕ) : Type 0 where
   pub head : Headed m s
   pub first : stop_stands s (piece_of s 0) ≡ true

@@ -1,6 +1,7 @@
 -- The positions that a joint proof is asked for.
 -- Assumes nothing.
 use Rattle.std.specs.Prelude.{ℕ, Bool, true, ◌&&◌, List, [], ◌∷◌, leb, ltb, length}
+use Rattle.std.specs.List.{list_all}
 use Rattle.jointbytes.specs.Layout.{most_positions}
 
 -- each is above the one before, the first above p
@@ -18,5 +19,4 @@ is_set ps = leb 1 (length ps) && (leb (length ps) most_positions && rising ps)
 
 -- not 2: "each 1 to n"
 unfoldable pub within : ℕ → List ℕ → Bool
-within n [] = true
-within n (p ∷ ps) = (leb 1 p && leb p n) && within n ps
+within n ps = list_all (λ p. leb 1 p && leb p n) ps

@@ -12,6 +12,7 @@ use crate::{HEADER, SHARED, VERSION};
 use proofbytes::{ENTRY, STOP, STOP_KIND};
 
 // A proof's piece: its shared number, where its remaining entries begin, and how many they are.
+// It is read before the form of the whole is known, so each function asks for the bytes that it reads.
 #[derive(Clone, Copy)]
 pub struct Piece {
     pub shared: usize,
@@ -24,10 +25,7 @@ fn is_entry(s: &[u8], at: usize) -> bool
     requires { at ≤ length s.now }
     ensures { result ≡ leb (at + entry_size) (length s.now) && ltb (get_or s.now at 0) stop_kind }
 {
-    if s.len() - at < ENTRY {
-        return false;
-    }
-    s[at] < STOP_KIND
+    ENTRY <= s.len() - at && s[at] < STOP_KIND
 }
 
 // The entries from `from` on.
@@ -36,13 +34,10 @@ fn ahead(s: &[u8], from: usize) -> usize
     ensures { (result ≡ ahead_is (length s.now) s.now from)
         × (from + entry_size * result ≤ length s.now) }
 {
-    let mut at = from;
     let mut k = 0;
-    while at < s.len() {
-        if !is_entry(s, at) {
-            return k;
-        }
-        at += ENTRY;
+
+    // A `while`: each entry is looked at where it stands, and the first that is none ends the count.
+    while is_entry(s, from + ENTRY * k) {
         k += 1;
     }
     k
@@ -52,11 +47,15 @@ fn begin(s: &[u8], shared: usize, from: usize) -> Piece
     requires { from ≤ length s.now }
     ensures { (result ≡ piece_at s.now shared from) × (stop_at result ≤ length s.now) }
 {
-    let own = ahead(s, from);
-    Piece { shared, from, own }
+    Piece {
+        shared,
+        from,
+        own: ahead(s, from),
+    }
 }
 
 // The first piece.
+#[tactic(auto, unfolding(crate::specs::Reading::piece_of))]
 pub fn first(s: &[u8]) -> Piece
     requires { joint_header ≤ length s.now }
     ensures { (result ≡ piece_of s.now 0) × (stop_at result ≤ length s.now) }
@@ -65,15 +64,13 @@ pub fn first(s: &[u8]) -> Piece
 }
 
 // Does a piece's stop stand whole after its entries?
+#[tactic(auto, unfolding(crate::specs::Reading::stop_stands))]
 fn stands(s: &[u8], q: Piece) -> bool
     requires { stop_at q ≤ length s.now }
     ensures { result ≡ stop_stands s.now q }
 {
     let at = q.from + ENTRY * q.own;
-    if s.len() - at < STOP {
-        return false;
-    }
-    s[at] == STOP_KIND
+    STOP <= s.len() - at && s[at] == STOP_KIND
 }
 
 // Where a piece ends.
@@ -90,7 +87,7 @@ pub fn next(s: &[u8], q: Piece) -> Piece
     ensures { (result ≡ next_of s.now q) × (stop_at result ≤ length s.now) × (result.shared < 65536) }
 {
     let at = end(s, q);
-    let shared = octets::two_at(s, at) as usize;
+    let shared = octets::number_at::<2>(s, at) as usize;
     begin(s, shared, at + SHARED)
 }
 
@@ -98,10 +95,7 @@ pub fn next(s: &[u8], q: Piece) -> Piece
 fn later(h: Piece, q: Piece, j: usize) -> Piece
     ensures { result ≡ cond (leb q.shared j) q h }
 {
-    if q.shared <= j {
-        return q;
-    }
-    h
+    if q.shared <= j { q } else { h }
 }
 
 // The piece that holds the entry with j entries before it, of the i-th proof: the last that shares no more than j.
@@ -111,11 +105,9 @@ fn holder(s: &[u8], i: usize, j: usize) -> Piece
 {
     let mut q = first(s);
     let mut h = q;
-    let mut b = 0;
-    while b < i {
+    for _b in 0..i {
         q = next(s, q);
         h = later(h, q, j);
-        b += 1;
     }
     h
 }
@@ -130,32 +122,23 @@ fn shares_most(s: &[u8], i: usize, k: usize, q: Piece) -> bool
     if k < q.shared {
         return false;
     }
-    if k == q.shared {
-        return true;
-    }
-    if q.own == 0 {
+    if k == q.shared || q.own == 0 {
         return true;
     }
     let h = holder(s, i, q.shared);
     let at = h.from + ENTRY * (q.shared - h.shared);
-    let from = q.from;
-    !octets::same_bytes(&s[at..at + ENTRY], &s[from..from + ENTRY])
+    s[at..at + ENTRY] != s[q.from..q.from + ENTRY]
 }
 
 // Version, length and number.
+#[tactic(auto, using(octets::proofs::NumberLaws::read_one), unfolding(crate::specs::Form::head_fits))]
 fn head_fits(s: &[u8], m: usize) -> bool
     ensures { result ≡ head_fits m s.now }
 {
-    if s.len() < HEADER {
-        return false;
-    }
-    if s[0] != VERSION {
-        return false;
-    }
-    if octets::four_at(s, 1) != (s.len() - 5) as u64 {
-        return false;
-    }
-    octets::one_at(s, 5) == m as u64
+    HEADER <= s.len()
+        && s[0] == VERSION
+        && octets::number_at::<4>(s, 1) == (s.len() - 5) as u64
+        && octets::number_at::<1>(s, 5) == m as u64
 }
 
 // The pieces after the first, to the end of the bytes.
@@ -165,33 +148,23 @@ fn later_fit(s: &[u8], m: usize) -> bool
 {
     let mut q = first(s);
     let mut k = q.own;
-    let mut i = 1;
-    while i < m {
+    for i in 1..m {
         if s.len() - end(s, q) < SHARED {
             return false;
         }
         q = next(s, q);
-        if !stands(s, q) {
-            return false;
-        }
-        if !shares_most(s, i - 1, k, q) {
+        if !stands(s, q) || !shares_most(s, i - 1, k, q) {
             return false;
         }
         k = q.shared + q.own;
-        i += 1;
     }
     end(s, q) == s.len()
 }
 
 // The form of any bytes as a joint proof of m positions.
+#[tactic(auto, using(crate::proofs::Rejoined::head_long), unfolding(crate::specs::Form::joint_fits, crate::specs::Working::Stands))]
 pub fn form(s: &[u8], m: usize) -> bool
     ensures { result ≡ joint_fits m s.now }
 {
-    if !head_fits(s, m) {
-        return false;
-    }
-    if !stands(s, first(s)) {
-        return false;
-    }
-    later_fit(s, m)
+    head_fits(s, m) && stands(s, first(s)) && later_fit(s, m)
 }

@@ -10,7 +10,7 @@ pub fn header(d: &mut [u8], m: u64, rest: u64)
     requires { (length d.old ≡ joint_header) × (m < 256) }
     ensures { d.new ≡ joint_head m rest }
 {
-    octets::put_one(d, 0, VERSION as u64);
-    octets::put_four(d, 1, rest);
-    octets::put_one(d, 5, m);
+    octets::put_number::<1>(d, 0, VERSION as u64);
+    octets::put_number::<4>(d, 1, rest);
+    octets::put_number::<1>(d, 5, m);
 }

@@ -10,9 +10,10 @@ use Rattle.octets.proofs.RunLaws.{same-true, same_refl}
 use Rattle.labels.specs.declared.Side.{Side}
 use Rattle.commands.specs.declared.Metadata.{Metadata}
 use Rattle.proofbytes.specs.Reading.{entries_from, count_of}
-use Rattle.gateway.specs.Climbing.{climbed, taken, stop_leaf, lesser_of, below_of}
-use Rattle.gateway.specs.declared.examine.Finding.TheVariants.{Fine, Mislabelled}
-use Rattle.gateway.specs.Working.{found_of, recomputed_of}
+use Rattle.gateway.specs.Climbing.{climbed, taken, stop_leaf, below_of}
+use Rattle.std.specs.Prelude.{Ok, Err, min}
+use Rattle.gateway.specs.declared.examine.Fault.TheVariants.{Mislabelled}
+use Rattle.gateway.specs.Working.{recomputed_of}
 use Rattle.gateway.proofs.Climbs.{climbed-append, taken_all}
 use Rattle.gateway.proofs.Exact.{entries_split}
 use Rattle.jointgateway.specs.Working.{settled_of}
@@ -36,7 +37,7 @@ climb_join w i j k t a b =
 
 module _ (w : List ℕ) (m : Metadata) (c : ℕ) where
   pub settled_same : {x t u : Side} → (climbed (entries_from w 0 c) t).label ≡ m.label → x ≡ t
-      → record { finding = Fine; below = u } ≡ settled_of w m c x u
+      → Ok u ≡ settled_of w m c x u
   unfolding settled_of
   settled_same l e = sym (rw (e, l, same_refl m.label))
 
@@ -47,16 +48,16 @@ module _ (w : List ℕ) (m : Metadata) (c : ℕ) where
         let z : c - 0 ≡ c = omega arith in
         er ∙ rw (z, taken_all (entries_from w 0 c))
 
-    pub settled-fine : b ≡ true → record { finding = Fine; below = u } ≡ settled_of w m c x u
+    pub settled-fine : b ≡ true → Ok u ≡ settled_of w m c x u
     unfolding settled_of
     settled-fine t = sym (rw (← root_is, sym e ∙ t))
 
-    pub settled_not : b ≡ false → found_of Mislabelled ≡ settled_of w m c x u
+    pub settled_not : b ≡ false → Err Mislabelled ≡ settled_of w m c x u
     unfolding settled_of
     settled_not t = sym (rw (← root_is, sym e ∙ t))
 
 -- the two ways to the side below the first c entries and the one below the first f
-module _ (w : List ℕ) (m : Metadata) (f c : ℕ) {k at : ℕ} (ek : k ≡ count_of w) (ea : at ≡ lesser_of f k) (low : at ≤ k) {leaf x u : Side}
+module _ (w : List ℕ) (m : Metadata) (f c : ℕ) {k at : ℕ} (ek : k ≡ count_of w) (ea : at ≡ min f k) (low : at ≤ k) {leaf x u : Side}
     (el : leaf ≡ stop_leaf w k) where
   settled_is : c ≤ k → x ≡ climbed (entries_from w c (k - c)) (stop_leaf w k)
       → u ≡ climbed (entries_from w at (k - at)) (stop_leaf w k) → settled_of w m c x u ≡ recomputed_of w m f

@@ -1,6 +1,7 @@
 -- A JOINT PROOF IS WORTH ITS SPELLED-OUT PROOFS: a well-formed one is accepted exactly when the gateway accepts each of them for a Read,
 -- and so demand 3 holds of each tag. What is hashed for one proof is among what is hashed for all.
 -- Assumes nothing.
+use Rattle.std.specs.Prelude.{Ok}
 use Prim.Native.Nat.{ℕ, zero, suc, ◌+◌, ◌*◌, ◌≤◌, ◌<◌}
 use native.Mathlib.Omega.{arith}
 use native.Mathlib.Numerals.{add-one}
@@ -15,7 +16,6 @@ use Rattle.octets.specs.Runs.{patch, part}
 use Rattle.octets.proofs.PartLaws.{part_middle}
 use Rattle.refusals.specs.declared.Which.{Which}
 use Rattle.refusals.specs.declared.Which.TheVariants.{First, Place}
-use Rattle.refusals.specs.declared.Verdict.TheVariants.{Done}
 use Rattle.refusals.specs.Order.{verdict_of, settled}
 use Rattle.refusals.proofs.OrderLaws.{done-none, none-done, verdict-append, append-done}
 use Rattle.skiplist.specs.Blocks.{zeros, shown, tag_at}
@@ -39,8 +39,8 @@ use Rattle.jointgateway.specs.Demand.{read_at, EveryRead, AcceptedExactly, messa
 use Rattle.jointgateway.specs.Demand.{MetadataStays}
 
 -- which proof it is does not matter
-any_which : (v w : Which) (s : List ℕ) (p : ℕ) (m : Metadata) → verdict_of (proof_rules v s p m) ≡ Done
-    → verdict_of (proof_rules w s p m) ≡ Done
+any_which : (v w : Which) (s : List ℕ) (p : ℕ) (m : Metadata) → verdict_of (proof_rules v s p m) ≡ Ok tt
+    → verdict_of (proof_rules w s p m) ≡ Ok tt
 any_which v w s p m e = none-done (proof_rules w s p m) (done-none (proof_rules v s p m) e)
 
 -- THE OPENING
@@ -50,7 +50,7 @@ record Opened (m : Metadata) (ps s : List ℕ) : Type 0 where
   inside : within m.count ps ≡ true
   form : joint_fits (length ps) s ≡ true
 
-opened : (m : Metadata) (ps s : List ℕ) → verdict_of (opening_rules m ps s) ≡ Done → Opened m ps s
+opened : (m : Metadata) (ps s : List ℕ) → verdict_of (opening_rules m ps s) ≡ Ok tt → Opened m ps s
 opened m ps s e =
     let n = done-none (opening_rules m ps s) e in
     record {
@@ -69,7 +69,7 @@ within_head n p ps e =
 
 -- ONE READ, of a position in range
 module _ (m : Metadata) (p : ℕ) (s : List ℕ) (small : m.count ≤ 4096) (low : 1 ≤ p) (high : p ≤ m.count) where
-  read_opens : verdict_of (single.opening_rules m (read_at p)) ≡ Done
+  read_opens : verdict_of (single.opening_rules m (read_at p)) ≡ Ok tt
   read_opens = rw (le-ltb 4096 m.count small) (range_admitted Read p 0 zeros m.count (low, high))
 
   read-verdict : (gateway_of m (read_at p) s []).verdict ≡ verdict_of (proof_rules First s p m)
@@ -79,14 +79,14 @@ module _ (m : Metadata) (p : ℕ) (s : List ℕ) (small : m.count ≤ 4096) (low
   read_messages : gateway_messages m (read_at p) s [] ≡ one_messages s p m
   read_messages = rw read_opens (append-nil (one_messages s p m))
 
-pub read-tag : (m : Metadata) (p : ℕ) (s : List ℕ) → (gateway_of m (read_at p) s []).verdict ≡ Done
+pub read-tag : (m : Metadata) (p : ℕ) (s : List ℕ) → (gateway_of m (read_at p) s []).verdict ≡ Ok tt
     → (gateway_of m (read_at p) s []).tag ≡ shown (place_of s).item
 unfolding gateway_of
 read-tag m p s e = rw e
 
 -- ALL PROOFS
 module _ (m : Metadata) (s : List ℕ) (small : m.count ≤ 4096) where
-  each_read : (i : ℕ) (ps : List ℕ) → within m.count ps ≡ true → verdict_of (place_rules s m i ps) ≡ Done → EveryRead m s i ps
+  each_read : (i : ℕ) (ps : List ℕ) → within m.count ps ≡ true → verdict_of (place_rules s m i ps) ≡ Ok tt → EveryRead m s i ps
   unfolding place_rules
   each_read i [] k e = tt
   each_read i (p ∷ ps) k e =
@@ -96,7 +96,7 @@ module _ (m : Metadata) (s : List ℕ) (small : m.count ≤ 4096) where
         each_read (suc i) ps w.2 d.1,
       )
 
-  read_each : (i : ℕ) (ps : List ℕ) → within m.count ps ≡ true → EveryRead m s i ps → verdict_of (place_rules s m i ps) ≡ Done
+  read_each : (i : ℕ) (ps : List ℕ) → within m.count ps ≡ true → EveryRead m s i ps → verdict_of (place_rules s m i ps) ≡ Ok tt
   unfolding place_rules
   read_each i [] k e = refl
   read_each i (p ∷ ps) k e =
@@ -118,18 +118,18 @@ accepted_exactly m ps s e =
 -- WHAT A PROOF AMONG OTHERS SAYS, where all passed: the j-th of the positions
 module _ (m : Metadata) (s : List ℕ) where
   read_among : (ps : List ℕ) (i j : ℕ) → EveryRead m s i ps → j < length ps
-      → (gateway_of m (read_at (get_or ps j 0)) (proof_at s (i + j)) []).verdict ≡ Done
+      → (gateway_of m (read_at (get_or ps j 0)) (proof_at s (i + j)) []).verdict ≡ Ok tt
   read_among [] i j e l = absurd (omega arith)
   read_among (p ∷ ps) i zero e l =
       let k : i ≡ i + 0 = omega arith in
-      subst (λ x. (gateway_of m (read_at p) (proof_at s x) []).verdict ≡ Done) k e.0
+      subst (λ x. (gateway_of m (read_at p) (proof_at s x) []).verdict ≡ Ok tt) k e.0
   read_among (p ∷ ps) i (suc j) e l =
       let k : suc i + j ≡ i + suc j = omega (arith, add-one i, add-one j) in
-      subst (λ x. (gateway_of m (read_at (get_or ps j 0)) (proof_at s x) []).verdict ≡ Done) k
+      subst (λ x. (gateway_of m (read_at (get_or ps j 0)) (proof_at s x) []).verdict ≡ Ok tt) k
       (read_among ps (suc i) j e.1 (omega (arith, add-one j, add-one (length ps))))
 
   -- its messages are among those of all
-  messages_among : (ps : List ℕ) (i j : ℕ) → verdict_of (place_rules s m i ps) ≡ Done → j < length ps
+  messages_among : (ps : List ℕ) (i j : ℕ) → verdict_of (place_rules s m i ps) ≡ Ok tt → j < length ps
       → Within (one_messages (proof_at s (i + j)) (get_or ps j 0) m) (messages_from s m i ps)
   unfolding place_rules messages_from
   messages_among [] i j e l = absurd (omega arith)
@@ -189,25 +189,25 @@ module _ (s : List ℕ) where
           (part_middle (tags_of s n) (tag_of n) rest (32 * n) 32 (length-tags n fewer) (k n (omega (arith, add-one n))))
 
 -- a proof that passed has a tag of 32 bytes at its stop
-tag_length : (m : Metadata) (p : ℕ) (s : List ℕ) → verdict_of (proof_rules First s p m) ≡ Done
+tag_length : (m : Metadata) (p : ℕ) (s : List ℕ) → verdict_of (proof_rules First s p m) ≡ Ok tt
     → length (shown (place_of s).item) ≡ 32
 tag_length m p s e =
     shown-length (place_of s).item (formed_writable s (rules_found First s p m e).formed).stop
 
 -- the tags answered are those at the stops
-done-tags : (m : Metadata) (ps s : List ℕ) → (joint_of m ps s).verdict ≡ Done
+done-tags : (m : Metadata) (ps s : List ℕ) → (joint_of m ps s).verdict ≡ Ok tt
     → (joint_of m ps s).tags ≡ tags_of s (length ps) ++ drop (0 + length (tags_of s (length ps))) no_tags
 unfolding joint_of patch
 done-tags m ps s e = rw e
 
 -- AN ACCEPTED JOINT PROOF, and the i-th of its proofs
-done_parts : (m : Metadata) (ps s : List ℕ) → (joint_of m ps s).verdict ≡ Done
-    → (verdict_of (opening_rules m ps s) ≡ Done) × (verdict_of (place_rules s m 0 ps) ≡ Done)
+done_parts : (m : Metadata) (ps s : List ℕ) → (joint_of m ps s).verdict ≡ Ok tt
+    → (verdict_of (opening_rules m ps s) ≡ Ok tt) × (verdict_of (place_rules s m 0 ps) ≡ Ok tt)
 unfolding joint_of
 done_parts m ps s done = append-done (opening_rules m ps s) (place_rules s m 0 ps) done
 
-module _ (m : Metadata) (ps s : List ℕ) (done : (joint_of m ps s).verdict ≡ Done) where
-  opening-done : verdict_of (opening_rules m ps s) ≡ Done
+module _ (m : Metadata) (ps s : List ℕ) (done : (joint_of m ps s).verdict ≡ Ok tt) where
+  opening-done : verdict_of (opening_rules m ps s) ≡ Ok tt
   opening-done = (done_parts m ps s done).0
 
   start : Opened m ps s
@@ -223,9 +223,9 @@ module _ (m : Metadata) (ps s : List ℕ) (done : (joint_of m ps s).verdict ≡ 
     at_zero : 0 + i ≡ i
     at_zero = omega arith
 
-    accepted : (gateway_of m (read_at p) (proof_at s i) []).verdict ≡ Done
+    accepted : (gateway_of m (read_at p) (proof_at s i) []).verdict ≡ Ok tt
     accepted =
-        subst (λ x. (gateway_of m (read_at p) (proof_at s x) []).verdict ≡ Done) at_zero
+        subst (λ x. (gateway_of m (read_at p) (proof_at s x) []).verdict ≡ Ok tt) at_zero
         (read_among m s ps 0 i ((accepted_exactly m ps s opening-done).0 done) h)
 
     tag_size : length (tag_of s i) ≡ 32

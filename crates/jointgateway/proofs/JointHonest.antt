@@ -1,6 +1,7 @@
 -- DEMAND 2, the gateway's half, for joint proofs: spelling out the honest joint proof gives the honest single proofs, each of which the
 -- gateway accepts.
 -- Assumes nothing.
+use Rattle.std.specs.Prelude.{Ok}
 use Prim.Native.Nat.{ℕ, suc, ◌+◌, ◌*◌, ◌≤◌, ◌<◌}
 use native.Mathlib.Omega.{arith}
 use native.Mathlib.Numerals.{add-one}
@@ -12,7 +13,6 @@ use borrow.Author.Tests.{le-ltb}
 use Rattle.octets.specs.Numbers.{be}
 use Rattle.octets.specs.Runs.{patch}
 use Rattle.octets.proofs.NumberLaws.{length-be}
-use Rattle.refusals.specs.declared.Verdict.TheVariants.{Done}
 use Rattle.refusals.specs.Order.{verdict_of}
 use Rattle.sha256.specs.Hash.{sha256}
 use Rattle.skiplist.specs.Entry.{Entry, down, right, pass, Place}
@@ -38,6 +38,7 @@ use Rattle.jointgateway.specs.Joint.{proof_at, opening_rules, tags_of, no_tags, 
 use Rattle.jointbytes.specs.Paths.{joint_for, AllShort}
 use Rattle.jointgateway.specs.Demand.{read_at, EveryRead, tags_at, Respells, JointHonest}
 use Rattle.jointgateway.proofs.JointDemands.{within_head, tag_of, read-tag, accepted_exactly}
+use Rattle.skiplist.proofs.Cases.{never}
 
 -- THE RECORDS OF A PATH that can be written
 kinds : (e : Entry Side) → get_or (entry_bytes e) 0 0 < 2
@@ -152,8 +153,8 @@ module _ (m : Metadata) (bs : List Block) (l : WithinLimits bs) (held : held_sid
       → gateway_of m (read_at p) (proof_for p bs) [] ≡ accepted_of (tag_at p bs) (metadata_of_side (metadata_of sha256 bs))
   read_honest p low high few =
       honest_accepted m (read_at p) (proof_for p bs) [] bs l (low, high)
-      (λ w. let q = w.insert in let z : ◌≡◌ {A = ℕ} 0 1 = cc in absurd (omega arith)) held refl few
-      (λ q. let z : ◌≡◌ {A = ℕ} 0 1 = cc in absurd (omega arith))
+      (λ w. let q = w.insert in never cc) held refl few
+      (λ q. never cc)
 
   -- the proofs from the i-th on, where they are the honest ones for ps
   module _ (s : List ℕ) where
@@ -171,7 +172,7 @@ module _ (m : Metadata) (bs : List Block) (l : WithinLimits bs) (held : held_sid
         let here : proof_at s i ≡ proof_for p bs = ap (proof_at s) e ∙ k 0 (omega (arith, add-one (length ps))) in
         let is : gateway_of m (read_at p) (proof_at s i) [] ≡ accepted_of (tag_at p bs) (metadata_of_side (metadata_of sha256 bs)) =
         ap (λ x. gateway_of m (read_at p) x []) here ∙ read_honest p o.0 o.1 f.0 in
-        let done : (gateway_of m (read_at p) (proof_at s i) []).verdict ≡ Done = ap (λ x. x.verdict) is in
+        let done : (gateway_of m (read_at p) (proof_at s i) []).verdict ≡ Ok tt = ap (λ x. x.verdict) is in
         let tag : tag_of s i ≡ tag_at p bs = sym (read-tag m p (proof_at s i) done) ∙ ap (λ x. x.tag) is in
         let rest = every_read ps (suc i) o.2 f.1 (λ j h.
         let c : suc i + j ≡ i + suc j = omega (arith, add-one i, add-one j) in
@@ -183,7 +184,7 @@ module _ (m : Metadata) (bs : List Block) (l : WithinLimits bs) (held : held_sid
 
 pub joint_honest : JointHonest
 unfolding joint_of tags_of
-joint_honest m ps bs l k w f held = rw done (λ i. record { verdict = Done; number = length ps; tags = tags i; metadata = m })
+joint_honest m ps bs l k w f held = rw done (λ i. record { verdict = Ok tt; number = length ps; tags = tags i; metadata = m })
   where
     count : m.count ≡ length bs
     count = ap (λ (x : Side). x.rank) held ∙ metadata_count sha256 bs
@@ -191,7 +192,7 @@ joint_honest m ps bs l k w f held = rw done (λ i. record { verdict = Done; numb
     inside : within m.count ps ≡ true
     inside = ap (λ n. within n ps) count ∙ w
 
-    opening : verdict_of (opening_rules m ps (joint_for ps bs)) ≡ Done
+    opening : verdict_of (opening_rules m ps (joint_for ps bs)) ≡ Ok tt
     opening = rw (le-ltb 4096 m.count (omega (arith, count, l.count)), k, inside, joint_form bs l ps k w f)
 
     each : EveryRead m (joint_for ps bs) 0 ps
@@ -200,7 +201,7 @@ joint_honest m ps bs l k w f held = rw done (λ i. record { verdict = Done; numb
         let e : 0 + j ≡ j = omega arith in
         ap (proof_at (joint_for ps bs)) e ∙ respells ps bs l w f j h)
 
-    done : (joint_of m ps (joint_for ps bs)).verdict ≡ Done
+    done : (joint_of m ps (joint_for ps bs)).verdict ≡ Ok tt
     done = (accepted_exactly m ps (joint_for ps bs) opening).1 each.0
 
     tags : patch no_tags 0 (tags_of (joint_for ps bs) (length ps)) ≡ patch no_tags 0 (tags_at ps bs)

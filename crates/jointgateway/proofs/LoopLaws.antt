@@ -1,28 +1,27 @@
 -- The proofs looked at one after the other: what is left decides, and the tags so far are put.
 -- Assumes nothing.
+use Rattle.std.specs.Prelude.{Ok, Err}
 use Prim.Native.Nat.{ℕ, suc, ◌+◌, ◌-◌, ◌*◌, ◌≤◌, ◌<◌}
 use native.Mathlib.Omega.{arith}
 use native.Mathlib.Numerals.{add-one}
 use mathlib.Core.Path.{◌≡◌, refl, sym, ap, subst, ◌∙◌}
-use mathlib.Core.Bool.{true, false}
-use mathlib.Core.List.{List, [], ◌∷◌}
+use mathlib.Core.List.{List, ◌∷◌}
 use lib.ListN.{length, get_or, drop, length-append, drop_of_length-le, length-replicate}
 use lib.Seq.{drop-cons}
 use Rattle.octets.specs.Runs.{patch}
 use Rattle.octets.proofs.PatchLaws.{patch_none, patch_next}
 use Rattle.refusals.specs.declared.Which.TheVariants.{Place}
-use Rattle.refusals.specs.declared.Verdict.{Verdict}
-use Rattle.refusals.specs.declared.Verdict.TheVariants.{Done, Refused}
-use Rattle.refusals.specs.Order.{verdict_of, is_done}
+use Rattle.refusals.specs.Order.{Verdict, verdict_of}
 use Rattle.skiplist.specs.Blocks.{shown}
 use Rattle.labels.specs.declared.Side.{Side}
 use Rattle.commands.specs.declared.Metadata.{Metadata}
 use Rattle.proofbytes.specs.Reading.{place_of}
 use Rattle.jointbytes.specs.declared.read.Piece.{Piece}
 use Rattle.jointbytes.specs.Reading.{piece_of}
-use Rattle.gateway.specs.declared.examine.Finding.{Finding}
-use Rattle.gateway.specs.declared.examine.Finding.TheVariants.{Fine}
-use Rattle.gateway.specs.Working.{finding_of, blamed}
+use Rattle.std.specs.Prelude.{Ok, Err}
+use Rattle.refusals.specs.declared.Refusal.{Refusal}
+use Rattle.gateway.specs.declared.examine.Fault.{Fault}
+use Rattle.gateway.specs.Working.{finding_of, refusal_of, blamed}
 use Rattle.gateway.proofs.Answers.{rules_refused, rules_done}
 use Rattle.jointgateway.specs.Joint.{proof_at, place_rules, tags_of, no_tags}
 use Rattle.jointgateway.specs.Working.{Spelled, Before, Kept}
@@ -52,47 +51,33 @@ going_start s m ps t e n d =
     }
 
 module _ (s : List ℕ) (m : Metadata) (ps : List ℕ) (i : ℕ) {q : Piece} {t : Side} {w tags : List ℕ} (g : Going s m ps i q t w tags) where
-  going_end : length ps ≤ i → Done ≡ verdict_of (place_rules s m 0 ps)
+  going_end : length ps ≤ i → Ok tt ≡ verdict_of (place_rules s m 0 ps)
   unfolding place_rules
   going_end l = sym (ap (λ x. verdict_of (place_rules s m i x)) (drop_of_length-le ps l)) ∙ g.rules
 
   pub all_done : length ps ≤ i
-      → (Done ≡ verdict_of (place_rules s m 0 ps)) × (Done ≡ Done → tags ≡ patch no_tags 0 (tags_of s (length ps)))
+      → (Ok tt ≡ verdict_of (place_rules s m 0 ps)) × (◌≡◌ {A = Verdict} (Ok tt) (Ok tt) → tags ≡ patch no_tags 0 (tags_of s (length ps)))
   all_done l =
       let e : i ≡ length ps = omega (arith, l, g.low) in
       (going_end l, λ _. g.tags ∙ ap (λ x. patch no_tags 0 (tags_of s x)) e)
 
-  module _ (l : i < length ps) {f : Finding} {v : Verdict} (e : f ≡ finding_of (proof_at s i) (get_or ps i 0) m)
-      (b : v ≡ blamed (Place (i + 1)) f) where
-    blame_is : v ≡ blamed (Place (suc i)) (finding_of (proof_at s i) (get_or ps i 0) m)
-    blame_is = b ∙ rw (add-one, e)
-
+  module _ (l : i < length ps) where
     here : verdict_of (place_rules s m i (drop i ps)) ≡ verdict_of (place_rules s m i (get_or ps i 0 ∷ drop (suc i) ps))
     here = ap (λ x. verdict_of (place_rules s m i x)) (drop-cons ps i 0 l)
 
-    pub one_refused : is_done v ≡ false
-        → (v ≡ verdict_of (place_rules s m 0 ps)) × (v ≡ Done → ⊥)
+    pub one_refused : {x : Fault} {why : Refusal} → finding_of (proof_at s i) (get_or ps i 0) m ≡ Err x
+        → why ≡ refusal_of (Place (i + 1)) x
+        → (Err why ≡ verdict_of (place_rules s m 0 ps)) × (◌≡◌ {A = Verdict} (Err why) (Ok tt) → ⊥)
     unfolding place_rules
-    one_refused n = go v blame_is n
-      where
-        go : (x : Verdict) → x ≡ blamed (Place (suc i)) (finding_of (proof_at s i) (get_or ps i 0) m) → is_done x ≡ false
-            → (x ≡ verdict_of (place_rules s m 0 ps)) × (x ≡ Done → ⊥)
-        go Done d k = let z : ◌≡◌ {A = ℕ} 0 1 = cc in absurd (omega arith)
-        go (Refused why) d k = (
-          sym (rules_refused (Place (suc i)) (proof_at s i) (get_or ps i 0) m (place_rules s m (suc i) (drop (suc i) ps)) (sym d))
-              ∙ sym here ∙ g.rules,
-          λ c. let z : ◌≡◌ {A = ℕ} 0 1 = cc in omega arith,
-        )
+    one_refused {x} {why} e b = (
+      sym (rules_refused (Place (suc i)) (proof_at s i) (get_or ps i 0) m (place_rules s m (suc i) (drop (suc i) ps))
+          (ap (blamed (Place (suc i))) e ∙ ap Err (sym (b ∙ ap (λ n. refusal_of (Place n) x) (add-one i)))))
+          ∙ sym here ∙ g.rules,
+      λ c. let z : ◌≡◌ {A = ℕ} 0 1 = cc in omega arith,
+    )
 
-    only_done : (x : Verdict) → is_done x ≡ true → x ≡ Done
-    only_done Done k = refl
-    only_done (Refused why) k = let z : ◌≡◌ {A = ℕ} 0 1 = cc in absurd (omega arith)
-
-    pub one_fine : is_done v ≡ true → f ≡ Fine
-    one_fine n =
-        e ∙ (rules_done (Place (suc i)) (proof_at s i) (get_or ps i 0) m [] (sym blame_is ∙ only_done v n)).1
-
-    pub one_more : {q' : Piece} (t' : Side) {w' tags' : List ℕ} → length ps ≤ 32 → is_done v ≡ true → q' ≡ piece_of s i → Spelled w' s i
+    pub one_more : {q' : Piece} (t' : Side) {w' tags' : List ℕ} → length ps ≤ 32
+        → finding_of (proof_at s i) (get_or ps i 0) m ≡ Ok tt → q' ≡ piece_of s i → Spelled w' s i
         → tags' ≡ patch tags (32 * i) (shown (place_of (proof_at s i)).item) → length (shown (place_of (proof_at s i)).item) ≡ 32
         → (i + 1 < length ps → Kept s m (suc i) t') → Going s m ps (i + 1) q' t' w' tags'
     unfolding place_rules tags_of
@@ -101,7 +86,7 @@ module _ (s : List ℕ) (m : Metadata) (ps : List ℕ) (i : ℕ) {q : Piece} {t 
         let T = shown (place_of (proof_at s i)).item in
         let z = length-replicate {A = ℕ} 1024 0 in
         let r = (rules_done (Place (suc i)) (proof_at s i) (get_or ps i 0) m (place_rules s m (suc i) (drop (suc i) ps))
-        (sym blame_is ∙ only_done v n)).0 in
+        (ap (blamed (Place (suc i))) n)).0 in
         record {
           low = omega arith;
           piece = p ∙ ap (piece_of s) a;

@@ -3,13 +3,11 @@
 use Prim.Native.Nat.{ℕ, zero, suc, ◌+◌, ◌-◌, ◌*◌, ◌≤◌, ◌<◌}
 use native.Mathlib.Omega.{arith}
 use native.Mathlib.Numerals.{add-one}
-use mathlib.Core.Logic.{◌⊎◌, inl, inr}
 use mathlib.Core.Path.{◌≡◌, refl, sym, ap, ap₂, subst, ◌∙◌}
 use mathlib.Core.List.{List, [], ◌∷◌, ◌++◌, append_assoc}
 use lib.ListN.{length, take, drop, length-append, length-drop, take-append-drop}
 use lib.Seq.{length-take-le, take_at, drop_at, take-append-le, drop-append-le}
-use borrow.Author.Tests.{lt-leb, le-leb, lt-ltb, le-ltb}
-use Rattle.skiplist.proofs.Cases.{order}
+use borrow.Author.Tests.{lt-leb, le-leb}
 use Rattle.octets.proofs.RunLaws.{same-true}
 use Rattle.labels.specs.declared.Side.{Side}
 use Rattle.octets.specs.Runs.{patch, part}
@@ -29,8 +27,10 @@ use Rattle.jointbytes.proofs.CommonLaws.{AllLong, joined-append, length-joined}
 use Rattle.jointbytes.proofs.Rejoined.{joined-records}
 use Rattle.jointbytes.proofs.StandLaws.{stands-end, stop_fits, length-records, length-spelled, shared_first}
 use Rattle.commands.specs.declared.Metadata.{Metadata}
-use Rattle.gateway.specs.declared.examine.Finding.TheVariants.{Fine, Misread}
-use Rattle.gateway.specs.Climbing.{climbed, stop_leaf, lesser_of, below_of}
+use Rattle.std.specs.Prelude.{Ok, Err, min}
+use Rattle.gateway.specs.declared.examine.Fault.TheVariants.{Misread}
+use Rattle.std.proofs.Math.Nat.{min-eq_left}
+use Rattle.gateway.specs.Climbing.{climbed, stop_leaf, below_of}
 use Rattle.gateway.proofs.Screens.{finding-fine, rooted_is}
 use Rattle.jointgateway.proofs.AgainLaws.{climb_join}
 use Rattle.gateway.specs.Working.{finding_of}
@@ -175,7 +175,7 @@ before_size w s (suc i) b = b.size
 
 -- TOO LONG FOR A PROOF
 pub too_long : (s : List ℕ) (i p : ℕ) (m : Metadata) → Stands s i → 200 < length (spelled_entries s i)
-    → finding_of (proof_at s i) p m ≡ Misread
+    → finding_of (proof_at s i) p m ≡ Err Misread
 unfolding finding_of well_formed header_fits
 too_long s i p m t l =
     let n = length-proof s i t in
@@ -249,12 +249,12 @@ kept_in s m (suc i) q t st e k =
     (omega (arith, n, l, c), ap (λ x. (climbed (entries_from (proof_at s (suc i)) 0 x) t).label) c ∙ k)
 
 -- a proof that passed leads to the label held, from what it recomputes below its first c entries
-fine_kept : (w : List ℕ) (p c : ℕ) (m : Metadata) → m.count ≤ 4096 → finding_of w p m ≡ Fine → c ≤ count_of w
+fine_kept : (w : List ℕ) (p c : ℕ) (m : Metadata) → m.count ≤ 4096 → finding_of w p m ≡ Ok tt → c ≤ count_of w
     → (climbed (entries_from w 0 c) (below_of w c)).label ≡ m.label
 unfolding below_of
 fine_kept w p c m h f l =
     let d = finding-fine w p m f in
-    let z : lesser_of c (count_of w) ≡ c = lesser_low c (count_of w) l in
+    let z : min c (count_of w) ≡ c = min-eq_left {n = c} {m = count_of w} l in
     let y : c - 0 ≡ c = omega arith in
     let x : count_of w - 0 ≡ count_of w = omega arith in
     ap (λ n. (climbed (entries_from w 0 c) (climbed (entries_from w n (count_of w - n)) (stop_leaf w (count_of w)))).label) z
@@ -262,16 +262,9 @@ fine_kept w p c m h f l =
     ∙ ap (λ t. t.label) (climb_join w 0 c (count_of w) (stop_leaf w (count_of w)) (omega arith) l)
     ∙ ap (λ n. (climbed (entries_from w 0 n) (stop_leaf w (count_of w))).label) x
     ∙ same-true _ m.label (rooted_is w m d.counted h ∙ d.labelled)
-  where
-    lesser_low : (a b : ℕ) → a ≤ b → lesser_of a b ≡ a
-    lesser_low a b q = go (order a b)
-      where
-        go : (a < b) ⊎ (b ≤ a) → lesser_of a b ≡ a
-        go (inl r) = rw (lt-ltb a b r)
-        go (inr r) = rw (le-ltb a b r) (omega (arith, q, r))
 
 pub kept_next : (s : List ℕ) (m : Metadata) (i p c : ℕ) (t : Side) → Stands s (suc i) → m.count ≤ 4096
-    → finding_of (proof_at s i) p m ≡ Fine → c ≡ (piece_of s (suc i)).shared → t ≡ below_of (proof_at s i) c → Kept s m (suc i) t
+    → finding_of (proof_at s i) p m ≡ Ok tt → c ≡ (piece_of s (suc i)).shared → t ≡ below_of (proof_at s i) c → Kept s m (suc i) t
 unfolding Stands
 kept_next s m i p c t st h f e d =
     let n = count_spelled s i st.0 in

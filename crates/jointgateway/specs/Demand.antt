@@ -2,10 +2,9 @@
 -- whose metadata is held. The one exception is a clash: two different messages of equal digest, one hashed in checking what was sent, the
 -- other in labelling the row.
 -- Assumes nothing.
-use Rattle.std.specs.Prelude.{ℕ, suc, ◌*◌, ◌<◌, ◌≡◌, ◌⊎◌, true, List, [], ◌∷◌, ◌++◌, length, get_or}
+use Rattle.std.specs.Prelude.{ℕ, suc, ◌*◌, ◌<◌, ◌≡◌, ◌⊎◌, true, List, [], ◌∷◌, ◌++◌, length, get_or, Ok}
 use Rattle.octets.specs.Runs.{patch, part}
 use Rattle.refusals.specs.declared.Which.TheVariants.{Place}
-use Rattle.refusals.specs.declared.Verdict.TheVariants.{Done}
 use Rattle.refusals.specs.Order.{verdict_of, settled}
 use Rattle.sha256.specs.Hash.{sha256}
 use Rattle.skiplist.specs.Limits.{digest_bytes}
@@ -31,12 +30,12 @@ read_at p = record { operation = Read; position = p; height = 0; tag = zeros }
 -- EACH PROOF AS A SINGLE ONE: the gateway accepts every spelled-out proof from the i-th on, for a Read of its position
 abbrev pub EveryRead : Metadata → List ℕ → ℕ → List ℕ → Type 0
 EveryRead m s i [] = Unit {0}
-EveryRead m s i (p ∷ ps) = ((gateway_of m (read_at p) (proof_at s i) []).verdict ≡ Done) × EveryRead m s (suc i) ps
+EveryRead m s i (p ∷ ps) = ((gateway_of m (read_at p) (proof_at s i) []).verdict ≡ Ok tt) × EveryRead m s (suc i) ps
 
 -- a well-formed joint proof is accepted exactly when every spelled-out proof is
 abbrev pub AcceptedExactly : Type 0
-AcceptedExactly = (m : Metadata) (ps s : List ℕ) → verdict_of (opening_rules m ps s) ≡ Done
-    → ((joint_of m ps s).verdict ≡ Done → EveryRead m s 0 ps) × (EveryRead m s 0 ps → (joint_of m ps s).verdict ≡ Done)
+AcceptedExactly = (m : Metadata) (ps s : List ℕ) → verdict_of (opening_rules m ps s) ≡ Ok tt
+    → ((joint_of m ps s).verdict ≡ Ok tt → EveryRead m s 0 ps) × (EveryRead m s 0 ps → (joint_of m ps s).verdict ≡ Ok tt)
 
 -- WHAT IS HASHED, refusals included: of the proofs from the i-th on, each only where the ones before it passed. A message over shared
 -- entries that one before has hashed stands here for each proof, though it is not hashed again
@@ -55,7 +54,7 @@ JointClash m ps s bs = Clash sha256 (joint_messages m ps s) (tree_messages sha25
 -- DEMAND 3: an accepted answer has at each place the tag at that place's position
 abbrev pub JointDemand3 : Type 0
 JointDemand3 = (m : Metadata) (ps s : List ℕ) (bs : List Block) → WithinLimits bs → held_side m ≡ metadata_of sha256 bs
-    → (joint_of m ps s).verdict ≡ Done → (i : ℕ) → i < length ps
+    → (joint_of m ps s).verdict ≡ Ok tt → (i : ℕ) → i < length ps
     → JointClash m ps s bs ⊎ (part (joint_of m ps s).tags (digest_bytes * i) digest_bytes ≡ tag_at (get_or ps i 0) bs)
 
 -- and the metadata held stays, accepted or refused
@@ -77,4 +76,4 @@ abbrev pub JointHonest : Type 0
 JointHonest = (m : Metadata) (ps : List ℕ) (bs : List Block) → WithinLimits bs → is_set ps ≡ true
     → within (length bs) ps ≡ true → AllShort ps bs → held_side m ≡ metadata_of sha256 bs
     → joint_of m ps (joint_for ps bs)
-    ≡ record { verdict = Done; number = length ps; tags = patch no_tags 0 (tags_at ps bs); metadata = m }
+    ≡ record { verdict = Ok tt; number = length ps; tags = patch no_tags 0 (tags_at ps bs); metadata = m }

@@ -5,8 +5,7 @@ use Rattle.std.specs.Prelude.{ℕ, zero, suc, ◌≡◌, not, List, [], ◌∷�
 use Rattle.octets.specs.Runs.{patch}
 use Rattle.refusals.specs.declared.Which.TheVariants.{Place}
 use Rattle.refusals.specs.declared.Refusal.TheVariants.{BadMetadata, BadSet, BadPosition, BadProof}
-use Rattle.refusals.specs.declared.Verdict.{Verdict}
-use Rattle.refusals.specs.Order.{Rule, ◌when◌, verdict_of, settled}
+use Rattle.refusals.specs.Order.{Rule, ◌when◌, verdict_of, settled, Verdict}
 use Rattle.skiplist.specs.Limits.{most_blocks}
 use Rattle.skiplist.specs.Blocks.{shown}
 use Rattle.commands.specs.declared.Metadata.{Metadata}

@@ -8,87 +8,74 @@ ghost use Rattle.gateway.specs.Working.{recomputed_of, examined_of};
 ghost use Rattle.jointgateway.specs.Working.{settled_of, KeptIn};
 
 use commands::Metadata;
-use gateway::climb::{fold, lesser, stop_leaf};
-use gateway::examine::{Examined, Finding, found};
+use gateway::climb::{Taken, fold, stop_leaf};
+use gateway::examine::Fault;
 use labels::Side;
 
+#[tactic(auto, using(crate::proofs::AgainLaws::side_is))]
 fn same_side(a: Side, b: Side) -> bool
     ensures { result ≡ true → a ≡ b }
 {
-    if a.empty {
-        return false;
-    }
-    if b.empty {
-        return false;
-    }
-    if a.rank != b.rank {
-        return false;
-    }
-    let one = a.label;
-    let other = b.label;
-    octets::same32(one, other)
+    !a.empty && !b.empty && a.rank == b.rank && a.label == b.label
 }
 
+// What the proof before left is handed from step to step; nothing else is made of it.
 // x stands below the first c entries, and so does t, which leads to the label held.
-fn settle(w: &[u8], m: Metadata, c: usize, t: Side, x: Side, u: Side) -> Examined
+fn settle(w: &[u8], m: Metadata, c: usize, t: Side, x: Side, u: Side) -> Result<Side, Fault>
     requires { (at c ≤ length w.now) × ((climbed (entries_from w.now 0 c) t).label ≡ m.label) }
     ensures { result ≡ settled_of w.now m c x u }
 {
     if same_side(x, t) {
-        return Examined {
-            finding: Finding::Fine,
-            below: u,
-        };
+        return Ok(u);
     }
-    let root = fold(w, 0, c, true, true, x);
-    let label = root.label;
-    let held = m.label;
-    if octets::same32(label, held) {
-        Examined {
-            finding: Finding::Fine,
-            below: u,
-        }
+    let root = fold(w, 0, c, Taken::All, x);
+    if root.label == m.label {
+        Ok(u)
     } else {
-        found(Finding::Mislabelled)
+        Err(Fault::Mislabelled)
     }
 }
 
 // The label, for bytes that passed the screen; what is recomputed below the first f entries is kept.
-fn recompute(w: &[u8], m: Metadata, c: usize, t: Side, f: usize) -> Examined
+fn recompute(w: &[u8], m: Metadata, c: usize, t: Side, f: usize) -> Result<Side, Fault>
     requires { Sized w.now × (c ≤ count_of w.now) × ((climbed (entries_from w.now 0 c) t).label ≡ m.label) }
     ensures { result ≡ recomputed_of w.now m f }
 {
     let k = proofbytes::read::entry_count(w);
-    let at = lesser(f, k);
+    let at = f.min(k);
     if c <= at {
-        let u = fold(w, at, k, true, true, stop_leaf(w, k));
-        return settle(w, m, c, t, fold(w, c, at, true, true, u), u);
+        let u = fold(w, at, k, Taken::All, stop_leaf(w, k));
+        return settle(w, m, c, t, fold(w, c, at, Taken::All, u), u);
     }
-    let x = fold(w, c, k, true, true, stop_leaf(w, k));
-    settle(w, m, c, t, x, fold(w, at, c, true, true, x))
+    let x = fold(w, c, k, Taken::All, stop_leaf(w, k));
+    settle(w, m, c, t, x, fold(w, at, c, Taken::All, x))
 }
 
 // What is found of a proof w that shares c entries, over which t leads to the label held.
-fn again(w: &[u8], p: u64, m: Metadata, c: usize, t: Side, f: usize) -> Examined
+fn again(w: &[u8], p: u64, m: Metadata, c: usize, t: Side, f: usize) -> Result<Side, Fault>
     requires { (m.count ≤ most_blocks) × (c ≤ count_of w.now) × ((climbed (entries_from w.now 0 c) t).label ≡ m.label) }
     ensures { result ≡ examined_of w.now p m f }
 {
-    let x = gateway::examine::screen(w, p, m);
-    match x {
-        Finding::Fine => recompute(w, m, c, t, f),
-        Finding::Misread => found(Finding::Misread),
-        Finding::Misplaced => found(Finding::Misplaced),
-        Finding::Mislabelled => found(Finding::Mislabelled),
-    }
+    gateway::examine::screen(w, p, m)?;
+    recompute(w, m, c, t, f)
 }
 
 // What is found of the i-th proof, spelled out in w.
-pub fn look(w: &[u8], i: usize, p: u64, m: Metadata, c: usize, t: Side, f: usize) -> Examined
+pub fn look(
+    w: &[u8],
+    i: usize,
+    p: u64,
+    m: Metadata,
+    c: usize,
+    t: Side,
+    f: usize,
+) -> Result<Side, Fault>
     requires { (m.count ≤ most_blocks) × KeptIn w.now m i c t }
     ensures { result ≡ examined_of w.now p m f }
 {
     if i == 0 {
-        return gateway::examine::examine(w, p, m, f);
+        gateway::examine::examine(w, p, m, f)
+    } else {
+        again(w, p, m, c, t, f)
     }
-    again(w, p, m, c, t, f)
 }

@@ -2,9 +2,8 @@
 //! they are, and is then checked as a single one.
 #![tactic(auto)]
 
-ghost use Rattle.std.specs.Prelude.{◌≡◌, true, ◌+◌, ◌-◌, ◌*◌, ◌≤◌, ◌<◌, length};
+ghost use Rattle.std.specs.Prelude.{◌≡◌, true, ◌+◌, ◌-◌, ◌*◌, ◌≤◌, ◌<◌, length, IsOk};
 ghost use Rattle.octets.specs.Runs.{patch, part};
-ghost use Rattle.refusals.specs.declared.Verdict.TheVariants.{Done};
 ghost use Rattle.refusals.specs.Order.{verdict_of};
 ghost use Rattle.skiplist.specs.Limits.{most_blocks, digest_bytes};
 ghost use Rattle.skiplist.specs.Blocks.{shown};
@@ -16,21 +15,18 @@ ghost use Rattle.jointbytes.specs.Reading.{end_of, piece_of};
 ghost use Rattle.jointbytes.specs.Working.{Stands};
 ghost use Rattle.jointbytes.specs.Positions.{is_set};
 ghost use Rattle.jointbytes.specs.Form.{joint_fits};
-ghost use Rattle.gateway.specs.declared.examine.Finding.TheVariants.{Fine};
 ghost use Rattle.gateway.specs.Working.{examined_of};
-ghost use Rattle.jointgateway.specs.Joint.{proof_at, place_rules, tags_of, no_tags, Checks};
-ghost use Rattle.jointgateway.specs.Working.{room, Spelled, Before, Kept, refused_of, proved_of};
+ghost use Rattle.jointgateway.specs.Joint.{proof_at, place_rules, tags_of, no_tags, joint_of, Checks};
+ghost use Rattle.jointgateway.specs.Working.{room, Spelled, Before, Kept, refused_of, answer_with};
 
-use commands::Metadata;
-use gateway::examine::{Examined, Finding};
+use commands::{MOST_BLOCKS, Metadata};
+use gateway::examine::Fault;
 use jointbytes::read::Piece;
 use labels::Side;
 use proofbytes::{ENTRY, HEADER, MOST_ENTRIES, STOP};
 use refusals::{Refusal, Verdict, Which};
 
 mod again;
-
-const MOST_BLOCKS: u64 = 4096;
 
 const ROOM: usize = 7677;
 
@@ -39,6 +35,8 @@ const TAG: usize = 32;
 const TAGS: usize = 1024;
 
 // The tags in the order of the positions, `number` of them; what is not used is zero.
+// A struct and no Result: a refusal gives back the metadata that was given.
+// A number beside 1,024 bytes: nothing here takes memory of its own.
 #[derive(Clone, Copy)]
 pub struct Answer {
     pub verdict: Verdict,
@@ -52,7 +50,7 @@ fn refused(m: Metadata, why: Refusal) -> Answer
     ensures { result ≡ refused_of m why }
 {
     Answer {
-        verdict: Verdict::Refused(why),
+        verdict: Err(why),
         number: 0,
         tags: [0u8; TAGS],
         metadata: m,
@@ -65,11 +63,9 @@ fn spell(work: &mut [u8], s: &[u8], q: Piece)
     ensures { work.new ≡ patch (patch work.old 0 (header_bytes (q.shared + q.own))) (at q.shared)
         (part s.now q.from (rest_size q.own)) }
 {
-    let k = q.shared + q.own;
-    proofbytes::write::header(&mut work[0..HEADER], k as u64);
-    let from = q.from;
-    let end = from + (ENTRY * q.own + STOP);
-    octets::copy(work, HEADER + ENTRY * q.shared, &s[from..end]);
+    proofbytes::write::header(&mut work[0..HEADER], (q.shared + q.own) as u64);
+    let end = q.from + (ENTRY * q.own + STOP);
+    octets::copy(work, HEADER + ENTRY * q.shared, &s[q.from..end]);
 }
 
 // What is found of the i-th proof, for p, and what it recomputes below its first f entries; t is what the proof before recomputes below the
@@ -83,21 +79,22 @@ fn proof(
     m: Metadata,
     t: Side,
     f: usize,
-) -> Examined
+) -> Result<Side, Fault>
     requires { (m.count ≤ most_blocks) × (q ≡ piece_of s.now i) × Stands s.now i × Before work.old s.now i
         × (q.shared < 65536) × Kept s.now m i t }
     ensures { (result ≡ examined_of (proof_at s.now i) p m f)
-        × (result.finding ≡ Fine → Spelled work.new s.now i) }
+        × (IsOk result → Spelled work.new s.now i) }
 {
     let k = q.shared + q.own;
     if MOST_ENTRIES < k {
-        return gateway::examine::found(Finding::Misread);
+        return Err(Fault::Misread);
     }
     spell(work, s, q);
     again::look(&work[0..HEADER + ENTRY * k + STOP], i, p, m, q.shared, t, f)
 }
 
 // The tag at the i-th proof's stop, in its place.
+// What was spelled out is cut from the work buffer: header, k entries, stop.
 fn put_tag(tags: &mut [u8], work: &[u8], s: &[u8], i: usize, q: Piece)
     requires { (32 * i + 32 ≤ length tags.old) × (q ≡ piece_of s.now i) × Stands s.now i × Spelled work.now s.now i }
     ensures { (tags.new
@@ -115,21 +112,22 @@ fn piece(s: &[u8], i: usize, before: Piece) -> Piece
     ensures { (result ≡ piece_of s.now i) × (result.shared < 65536) }
 {
     if i == 0 {
-        return jointbytes::read::first(s);
+        jointbytes::read::first(s)
+    } else {
+        jointbytes::read::next(s, before)
     }
-    jointbytes::read::next(s, before)
 }
 
-// How many entries the proof after the i-th shares with it; 0 after the last of n.
+// How many entries the proof after the i-th shares with it. After the last of n it is 0, and any number would do.
 fn shared_after(s: &[u8], i: usize, q: Piece, n: usize) -> usize
     requires { (q ≡ piece_of s.now i) × (i < n) × (joint_fits n s.now ≡ true) }
     ensures { i + 1 < n → result ≡ (piece_of s.now (i + 1)).shared }
 {
     if n - i < 2 {
-        return 0;
+        0
+    } else {
+        jointbytes::read::next(s, q).shared
     }
-    let r = jointbytes::read::next(s, q);
-    r.shared
 }
 
 // Every proof in its order, until one is refused.
@@ -138,61 +136,54 @@ fn proofs(work: &mut [u8], tags: &mut [u8], s: &[u8], ps: &[u64], m: Metadata) -
     requires { (m.count ≤ most_blocks) × (is_set ps.now ≡ true) × (joint_fits (length ps.now) s.now ≡ true)
         × (length work.old ≡ room) × (tags.old ≡ no_tags) }
     ensures { (result ≡ verdict_of (place_rules s.now m 0 ps.now))
-        × (result ≡ Done → tags.new ≡ patch no_tags 0 (tags_of s.now (length ps.now))) }
+        × (result ≡ Ok tt → tags.new ≡ patch no_tags 0 (tags_of s.now (length ps.now))) }
 {
     let mut q = jointbytes::read::first(s);
     let mut t = labels::no_side();
-    let mut i = 0;
-    while i < ps.len() {
+    for i in 0..ps.len() {
         q = piece(s, i, q);
-        let x = proof(work, s, i, q, ps[i], m, t, shared_after(s, i, q, ps.len()));
-        let f = x.finding;
-        let v = gateway::blame(f, Which::Place((i + 1) as u8));
-        if !refusals::is_done(v) {
-            return v;
-        }
+        let place = Which::Place((i + 1) as u8);
+        t = proof(work, s, i, q, ps[i], m, t, shared_after(s, i, q, ps.len())).map_err(
+            |f| gateway::refusal(f, place),
+        )?;
         put_tag(tags, work, s, i, q);
-        t = x.below;
-        i += 1;
     }
-    Verdict::Done
+    Ok(())
 }
 
-// A set of positions within the count, and a joint proof of good form.
-fn spelled_out(m: Metadata, ps: &[u64], s: &[u8]) -> Answer
-    requires { (m.count ≤ most_blocks) × (is_set ps.now ≡ true) × (joint_fits (length ps.now) s.now ≡ true) }
-    ensures { result ≡ proved_of m ps.now s.now }
+// The checks in their order. Where none refuses, the tags are put.
+fn checked(m: Metadata, positions: &[u64], s: &[u8], tags: &mut [u8]) -> Verdict
+    requires { tags.old ≡ no_tags }
+    ensures { answer_with m (length positions.now) tags.new result ≡ joint_of m positions.now s.now }
 {
-    let mut work = [0u8; ROOM];
-    let mut tags = [0u8; TAGS];
-    let v = proofs(&mut work, &mut tags, s, ps, m);
-    match v {
-        Verdict::Refused(why) => refused(m, why),
-        Verdict::Done => Answer {
-            verdict: Verdict::Done,
-            number: ps.len() as u64,
-            tags,
-            metadata: m,
-        },
+    if MOST_BLOCKS < m.count {
+        return Err(Refusal::BadMetadata);
     }
+    if !jointbytes::positions::is_set(positions) {
+        return Err(Refusal::BadSet);
+    }
+    if !jointbytes::positions::within(m.count, positions) {
+        return Err(Refusal::BadPosition);
+    }
+    if !jointbytes::read::form(s, positions.len()) {
+        return Err(Refusal::BadProof(Which::Place(0)));
+    }
+    let mut work = [0u8; ROOM];
+    proofs(&mut work, tags, s, positions, m)
 }
 
 // The gateway's check of a joint proof for a set of positions, against the metadata it holds.
 pub fn check(m: Metadata, positions: &[u64], s: &[u8]) -> Answer
     ensures { Checks m positions.now s.now result }
 {
-    let count = m.count;
-    if MOST_BLOCKS < count {
-        return refused(m, Refusal::BadMetadata);
+    let mut tags = [0u8; TAGS];
+    match checked(m, positions, s, &mut tags) {
+        Err(why) => refused(m, why),
+        Ok(()) => Answer {
+            verdict: Ok(()),
+            number: positions.len() as u64,
+            tags,
+            metadata: m,
+        },
     }
-    if !jointbytes::positions::is_set(positions) {
-        return refused(m, Refusal::BadSet);
-    }
-    if !jointbytes::positions::within(count, positions) {
-        return refused(m, Refusal::BadPosition);
-    }
-    if !jointbytes::read::form(s, positions.len()) {
-        return refused(m, Refusal::BadProof(Which::Place(0)));
-    }
-    spelled_out(m, positions, s)
 }

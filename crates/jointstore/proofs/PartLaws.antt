@@ -5,6 +5,7 @@
 use Prim.Native.Nat.{ℕ, zero, suc, ◌+◌, ◌-◌, ◌*◌, ◌≤◌, ◌<◌}
 use native.Mathlib.Omega.{arith}
 use mathlib.Core.Path.{◌≡◌, refl, sym, ap, ap₂, ◌∙◌}
+use mathlib.Core.Bool.{true}
 use mathlib.Core.List.{List, [], ◌∷◌, ◌++◌, map, map-append}
 use lib.ListN.{length, drop, get_or, length-append, length-map, take-append-drop}
 use lib.Seq.{drop-append_seam}
@@ -28,16 +29,16 @@ use Rattle.skiplist.proofs.SharedLaws.{at_most-tallest}
 use Rattle.skiplist.proofs.SplitLaws.{Taller, last_height, stop_split, path_split, shared_split}
 use Rattle.labels.specs.declared.Side.{Side}
 use Rattle.labels.specs.CodeSides.{to_side, no_side, coded, vacant}
-use Rattle.archive.specs.declared.Layout.{Layout}
-use Rattle.archive.specs.Reading.{count_of, height_at, block_at, blocks_from}
+use Rattle.archive.specs.Reading.{count_of, height_at, block_at, blocks_from, sound}
 use Rattle.archive.proofs.RecordLaws.{take-blocks, drop-blocks, next_block, no_blocks}
 use Rattle.proofbytes.specs.Layout.{entry_size, stop_size}
 use Rattle.proofbytes.specs.Writing.{entry_bytes, stop_fields}
 use Rattle.jointbytes.specs.Spelling.{joined}
 use Rattle.store.specs.Answers.{path_at, entries_at}
-use Rattle.store.specs.Passes.{Opened, slot_of, slots_of, item_at, run_of, nearest, Anchors, bytes_of, rights_at, tail_at}
-use Rattle.store.proofs.SlotLaws.{get_or_any, tells}
-use Rattle.store.proofs.RunLaws.{count_is, run_low, run_none}
+use Rattle.store.specs.Passes.{slot_of, slots_of, item_at, run_of, nearest, Anchors, bytes_of, rights_at, tail_at}
+use Rattle.std.proofs.lemmas.List.{get_or_default}
+use Rattle.store.proofs.SlotLaws.{tells}
+use Rattle.store.proofs.RunLaws.{run_low, run_none}
 use Rattle.store.proofs.TailLaws.{nearest_is}
 use Rattle.store.proofs.ProofLaws.{last-item, entries_found, labels_found, stop_found}
 use Rattle.jointstore.specs.Answers.{raw_at}
@@ -113,10 +114,10 @@ pub record Cut (b : List ℕ) (q c a e : ℕ) : Type 0 where
   pub count : c + length (part_of b a q e) ≡ entries_at b q
   pub bytes : part_at b a q e ≡ rest_at b q c
 
-module _ (b : List ℕ) (x : Layout) (o : Opened b x) (q : ℕ) (in_row : q ≤ x.count) (m a e : ℕ) (before : a ≤ q)
+module _ (b : List ℕ) (good : sound b ≡ true) (q : ℕ) (in_row : q ≤ count_of b) (m a e : ℕ) (before : a ≤ q)
     (low : AtMost m (run_of b a q)) (reach : Reaches b m q e) (tall : 0 < a → m ≤ height_at b (a - 1)) where
   n : ℕ
-  n = x.count
+  n = count_of b
 
   A : List Column
   A = run_of b 0 a
@@ -136,20 +137,20 @@ module _ (b : List ℕ) (x : Layout) (o : Opened b x) (q : ℕ) (in_row : q ≤ 
   rest : List (Entry Tree)
   rest = entries_to (item_at b a) R X
 
-  in_n : e ≤ x.count
-  in_n = omega (arith, reach.in_row, count_is b x o)
+  in_n : e ≤ count_of b
+  in_n = reach.in_row
 
   up_to : run_of b 0 q ≡ A ++ R
   unfolding A R
   up_to = run-append b 0 a q (omega arith) before
 
-  behind : run_of b q x.count ≡ X ++ Y
+  behind : run_of b q (count_of b) ≡ X ++ Y
   unfolding X Y n
-  behind = run-append b q e x.count reach.after in_n
+  behind = run-append b q e (count_of b) reach.after in_n
 
   high : Taller m Y
   unfolding Y n
-  high = taller-run b m e x.count (λ k. reach.next (omega (arith, count_is b x o))) in_n
+  high = taller-run b m e (count_of b) reach.next in_n
 
   last : m ≤ last_height m A
   unfolding A
@@ -164,15 +165,15 @@ module _ (b : List ℕ) (x : Layout) (o : Opened b x) (q : ℕ) (in_row : q ≤ 
   cut_path : (path_at b q).entries ≡ firsts ++ rest
   unfolding firsts rest X R
   cut_path =
-      entries_found b x o q in_row
+      entries_found b good q in_row
       ∙ rw (up_to, behind) (path_split m X Y reach.low high head A R low last)
       ∙ ap (λ c. entries_to head A Y ++ entries_to c R X) anchored
 
   part_is : part_of b a q e ≡ map (map_entry (side_of coded)) rest
   unfolding tail_at rights_at rest X R
   part_is =
-      let low_x : AtMost most_height (run_of b q e) = run_low b x o q e reach.after in_n in
-      let low_r : AtMost most_height (run_of b a q) = run_low b x o a q before in_row in
+      let low_x : AtMost most_height (run_of b q e) = run_low b good q e reach.after in_n in
+      let low_r : AtMost most_height (run_of b a q) = run_low b good a q before in_row in
       rw (slots-open coded vacant tells most_height (run_of b q e) low_x, downs_side coded (run_of b q e))
       (merge-map (side_of coded) (right_entries (item_at b a) (run_of b a q)) (down_entries trees (run_of b q e))
       ∙ ap (map (map_entry (side_of coded)))
@@ -205,15 +206,15 @@ module _ (b : List ℕ) (x : Layout) (o : Opened b x) (q : ℕ) (in_row : q ≤ 
       ec
       ∙ sym (length-map (map (map_entry (side_of coded)) firsts) (map_entry to_side)
       ∙ length-map firsts (map_entry (side_of coded))) in
-      ap (λ p. joined (drop c (map entry_bytes p))) (sym (labels_found b x o q in_row) ∙ code_path)
+      ap (λ p. joined (drop c (map entry_bytes p))) (sym (labels_found b good q in_row) ∙ code_path)
       ∙ ap joined (drop-map entry_bytes c fs rs lf)
       ∙ entries-joined rs
       ∙ ap bytes_of (sym part_is)
 
-  stop_same : slot_of (slots_of (run_of b q e)) 0 ≡ stop_side coded (run_of b q x.count)
+  stop_same : slot_of (slots_of (run_of b q e)) 0 ≡ stop_side coded (run_of b q (count_of b))
   unfolding X
   stop_same =
-      slots-stop coded vacant tells most_height (run_of b q e) (run_low b x o q e reach.after in_n)
+      slots-stop coded vacant tells most_height (run_of b q e) (run_low b good q e reach.after in_n)
       ∙ sym (ap (stop_side coded) behind ∙ stop_split coded m Y high (run_of b q e))
 
   cut : (c : ℕ) → c ≡ length firsts → Cut b q c a e
@@ -225,31 +226,31 @@ module _ (b : List ℕ) (x : Layout) (o : Opened b x) (q : ℕ) (in_row : q ≤ 
     anchors = λ j k h g. omega (arith, tall k, at_most_at b m a q j low h g);
     count = omega (arith, ec, part_count);
     bytes = ap₂ ◌++◌ (sym (entries_left c ec))
-        (stop_found b x o q in_row (slot_of (slots_of (run_of b q e)) 0) stop_same);
+        (stop_found b good q in_row (slot_of (slots_of (run_of b q e)) 0) stop_same);
   }
 
 -- the first proof is the whole path
-pub first_cut : (b : List ℕ) (x : Layout) → Opened b x → (q : ℕ) → q ≤ x.count → Cut b q 0 0 x.count
+pub first_cut : (b : List ℕ) → sound b ≡ true → (q : ℕ) → q ≤ count_of b → Cut b q 0 0 (count_of b)
 unfolding firsts A Y n
-first_cut b x o q in_row =
-    let r : Reaches b most_height q x.count = record {
+first_cut b good q in_row =
+    let r : Reaches b most_height q (count_of b) = record {
       after = in_row;
-      in_row = omega (arith, count_is b x o);
-      low = run_low b x o q x.count in_row (omega arith);
-      next = λ k. absurd (omega (arith, count_is b x o));
+      in_row = omega arith;
+      low = run_low b good q (count_of b) in_row (omega arith);
+      next = λ k. absurd (omega arith);
     } in
-    let low = run_low b x o 0 q (omega arith) in_row in
-    cut b x o q in_row most_height 0 x.count (omega arith) low r (λ k. absurd (omega arith)) 0
-    (sym (rw (run_empty b 0 0 (omega arith), run_empty b x.count x.count (omega arith))))
+    let low = run_low b good 0 q (omega arith) in_row in
+    cut b good q in_row most_height 0 (count_of b) (omega arith) low r (λ k. absurd (omega arith)) 0
+    (sym (rw (run_empty b 0 0 (omega arith), run_empty b (count_of b) (count_of b) (omega arith))))
 
 -- a later one is cut where the columns between the two positions are anchored
-pub later_cut : (b : List ℕ) (x : Layout) → Opened b x → (p q m a e c : ℕ) → p < q → q ≤ x.count
+pub later_cut : (b : List ℕ) → sound b ≡ true → (p q m a e c : ℕ) → p < q → q ≤ count_of b
     → m ≡ tallest (run_of b p q) → a ≡ nearest b m p → Reaches b m q e → c ≡ shared_at b p q → Cut b q c a e
 unfolding firsts A Y n
-later_cut b x o p q m a e c rising in_row em ea r ec =
+later_cut b good p q m a e c rising in_row em ea r ec =
     let B = run_of b p q in
     let X = run_of b q e in
-    let Y = run_of b e x.count in
+    let Y = run_of b e (count_of b) in
     let near = nearest_is b m p in
     let before : a ≤ p = rw ea near.before in
     let below : Below m (run_of b a p) = rw ea near.lower in
@@ -258,19 +259,18 @@ later_cut b x o p q m a e c rising in_row em ea r ec =
     let between : run_of b a q ≡ run_of b a p ++ B = run-append b a p q before (omega arith) in
     let low : AtMost m (run_of b a q) =
     rw between (at_most-append m (run_of b a p) B (below-at_most m m (run_of b a p) (omega arith) below) low_b) in
-    let in_n : e ≤ x.count = omega (arith, r.in_row, count_is b x o) in
-    let hi : Taller m Y = taller-run b m e x.count (λ k. r.next (omega (arith, count_is b x o))) in_n in
-    let la : m ≤ last_height m (run_of b 0 a) = last b x o q in_row m a e (omega arith) low r tall in
+    let in_n : e ≤ count_of b = r.in_row in
+    let hi : Taller m Y = taller-run b m e (count_of b) r.next in_n in
+    let la : m ≤ last_height m (run_of b 0 a) = last b good q in_row m a e (omega arith) low r tall in
     let sh : shared_at b p q ≡ length (entries_to head (run_of b 0 a) Y) =
-    shared_is b p q rising (omega (arith, count_is b x o))
+    shared_is b p q rising in_row
     ∙ rw (
-      ← (count_is b x o),
       run-append b 0 a p (omega arith) before,
-      run-append b q e x.count r.after in_n,
+      run-append b q e (count_of b) r.after in_n,
     )
     (shared_split head (run_of b 0 a) (run_of b a p) B X Y (rw em at below) (rw em at r.low)
     (rw em at hi) (rw em at la)) in
-    cut b x o q in_row m a e (omega arith) low r tall c (ec ∙ sh)
+    cut b good q in_row m a e (omega arith) low r tall c (ec ∙ sh)
 
 -- ---- entries and stop side by side
 pub part_put : (b old y z : List ℕ) (at a q e k own : ℕ) (tag : List ℕ) (s : List Side) (d : Side)
@@ -285,7 +285,7 @@ part_put b old y z at a q e k own tag s d eo et es size fits ey ez =
     let w = stop_fields own tag (get_or s 0 d).rank (get_or s 0 d).label in
     let l : length s ≡ suc most_height =
     ap length es ∙ slots-length coded vacant tells most_height (run_of b q e) in
-    let g : get_or s 0 d ≡ slot_of s 0 = get_or_any s 0 d no_side (omega (arith, l)) in
+    let g : get_or s 0 d ≡ slot_of s 0 = get_or_default s 0 d no_side (omega (arith, l)) in
     ez
     ∙ ap (λ v. patch v (at + entry_size * k) w) ey
     ∙ patch_next old t w at (at + entry_size * k) (omega (arith, size)) (omega arith)

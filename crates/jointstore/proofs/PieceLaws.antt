@@ -154,9 +154,9 @@ module _ (b : List ℕ) (good : sound b ≡ true) (p : ℕ) (in_row : p ≤ coun
         stop_long,
       )
 
-pub length-piece : (b : List ℕ) → sound b ≡ true → (p q : ℕ) → q ≤ count_of b
+pub length_piece : (b : List ℕ) → sound b ≡ true → (p q : ℕ) → q ≤ count_of b
     → length (piece_at b p q) ≡ shared_bytes + rest_size (entries_at b q) (shared_at b p q)
 unfolding piece_at
-length-piece b good p q in_row =
+length_piece b good p q in_row =
     length-append (be shared_bytes (shared_at b p q)) (rest_at b q (shared_at b p q))
     ∙ omega (arith, length-rest b good q in_row (shared_at b p q))

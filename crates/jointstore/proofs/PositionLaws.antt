@@ -11,7 +11,7 @@ use lib.Dec.{leb, ltb}
 use lib.ListN.{length, drop, get_or, drop_of_length-le}
 use lib.Seq.{drop-cons}
 use borrow.Author.Tests.{leb-true, ltb-true, lt-leb, le-leb}
-use Rattle.skiplist.proofs.Cases.{both}
+use Rattle.skiplist.proofs.Cases.{both, never}
 use Rattle.archive.specs.Reading.{count_of}
 use Rattle.proofbytes.specs.Layout.{most_entries}
 use Rattle.jointbytes.specs.Layout.{most_positions}
@@ -32,7 +32,7 @@ pub record Asked (b ps : List ℕ) : Type 0 where
 
 pub asked : (b ps : List ℕ) → is_set ps ≡ true → within (count_of b) ps ≡ true → Asked b ps
 unfolding within
-asked b [] s w = let z : ◌≡◌ {A = ℕ} 0 1 = cc in absurd (omega arith)
+asked b [] s w = never cc
 asked b (p ∷ ps) s w =
     let some = both (leb 1 (length (p ∷ ps))) (leb (length (p ∷ ps)) most_positions && rises p ps) s in
     let few = both (leb (length (p ∷ ps)) most_positions) (rises p ps) some.1 in

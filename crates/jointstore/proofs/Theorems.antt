@@ -2,6 +2,7 @@
 -- 01's paths to the positions (`joint_row`), and prove writes it (`prove_row`). The proofs of a sound image are proper
 -- ones (`raws_proper`), so a joint proof of them is spelled out again as them.
 -- Assumes nothing.
+use Rattle.std.specs.Prelude.{Ok}
 use Prim.Native.Nat.{ℕ, ◌+◌, ◌≤◌}
 use mathlib.Core.Path.{◌≡◌, refl, ap, ◌∙◌}
 use mathlib.Core.Bool.{true, ◌&&◌}
@@ -10,7 +11,6 @@ use lib.Dec.{leb}
 use lib.ListN.{length}
 use borrow.Author.Tests.{le-leb, le-ltb, leb-true}
 use Rattle.octets.specs.Runs.{patch}
-use Rattle.refusals.specs.declared.Verdict.TheVariants.{Done}
 use Rattle.skiplist.specs.Blocks.{Block, WithinLimits, way_to}
 use Rattle.skiplist.proofs.Cases.{both}
 use Rattle.archive.specs.Form.{image_of}
@@ -54,12 +54,12 @@ module _ (bs : List Block) (w : WithinLimits bs) (s : List ℕ) where
   pub prove_row : (ps lent : List ℕ) (at : ℕ) (r : Proved) (after : List ℕ) → is_set ps ≡ true
       → within (length bs) ps ≡ true → AllShort ps bs → at + length (joint_for ps bs) ≤ length lent
       → Proves (image_of bs ++ s) ps lent at r after
-      → (r.verdict ≡ Done) × (r.length ≡ length (joint_for ps bs))
+      → (r.verdict ≡ Ok tt) × (r.length ≡ length (joint_for ps bs))
       × (after ≡ patch lent at (joint_for ps bs))
   unfolding joint_of joint_verdict buffer_after
   prove_row ps lent at r after set inside short fits c =
       let b = image_of bs ++ s in
-      let v : joint_verdict b ps (length lent) at ≡ Done =
+      let v : joint_verdict b ps (length lent) at ≡ Ok tt =
       rw (
         image-sound bs w s,
         set,

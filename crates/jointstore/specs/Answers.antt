@@ -3,8 +3,7 @@
 use Rattle.std.specs.Prelude.{ℕ, ◌+◌, Bool, true, not, ◌&&◌, List, [], ◌∷◌, map, leb, ltb, length}
 use Rattle.octets.specs.Runs.{patch}
 use Rattle.refusals.specs.declared.Refusal.TheVariants.{BadImage, BadPosition, NoRoom, TooDeep, BadSet}
-use Rattle.refusals.specs.declared.Verdict.{Verdict}
-use Rattle.refusals.specs.Order.{Rule, ◌when◌, verdict_of, settled}
+use Rattle.refusals.specs.Order.{Rule, ◌when◌, verdict_of, settled, Verdict}
 use Rattle.sha256.specs.Hash.{sha256}
 use Rattle.skiplist.specs.Label.{labelled}
 use Rattle.archive.specs.Reading.{count_of, sound}

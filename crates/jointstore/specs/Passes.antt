@@ -1,9 +1,7 @@
 -- What the private functions of the joint proof compute: no pledge cites these.
 -- Assumes nothing.
-use Rattle.std.specs.Prelude.{ℕ, ◌+◌, ◌-◌, ◌*◌, ◌≤◌, ◌<◌, cond, List, [], ◌∷◌, ◌++◌, leb, drop, get_or}
+use Rattle.std.specs.Prelude.{ℕ, ◌+◌, ◌-◌, ◌*◌, ◌≤◌, ◌<◌, List, [], ◌∷◌, ◌++◌, drop, get_or}
 use Rattle.octets.specs.Numbers.{be}
-use Rattle.refusals.specs.declared.Refusal.TheVariants.{NoRoom}
-use Rattle.refusals.specs.declared.Verdict.TheVariants.{Done}
 use Rattle.skiplist.specs.Limits.{most_height}
 use Rattle.skiplist.specs.Row.{AtMost}
 use Rattle.skiplist.specs.Entry.{Entry}
@@ -14,8 +12,7 @@ use Rattle.proofbytes.specs.Layout.{entry_size, stop_size}
 use Rattle.proofbytes.specs.Writing.{stop_fields}
 use Rattle.jointbytes.specs.Layout.{shared_bytes}
 use Rattle.jointbytes.specs.Spelling.{common, joined}
-use Rattle.store.specs.declared.Proved.{Proved}
-use Rattle.store.specs.Passes.{slot_of, slots_of, item_at, run_of, refused_proof, bytes_of, tail_at}
+use Rattle.store.specs.Passes.{slot_of, slots_of, item_at, run_of, bytes_of, tail_at}
 use Rattle.jointstore.specs.Answers.{raw_at}
 
 -- the number of leading entries that the paths to columns p and q share
@@ -57,8 +54,3 @@ pieces_at b p (q ∷ qs) = piece_at b p q ++ pieces_at b q qs
 -- those of all positions but the first
 abbrev pub later_at : List ℕ → List ℕ → List ℕ
 later_at b ps = pieces_at b (get_or ps 0 0) (drop 1 ps)
-
--- the answer where only the room is left to look at
-abbrev pub answer_of : ℕ → ℕ → ℕ → Proved
-answer_of room at size =
-    cond (leb (at + size) room) (record { verdict = Done; length = size; entries = 0 }) (refused_proof NoRoom)

@@ -3,6 +3,7 @@
 
 ghost use Rattle.jointstore.specs.Pledges.{Proves};
 
+use archive::Image;
 use store::Proved;
 
 mod path;
@@ -14,10 +15,14 @@ pub fn prove(image: &[u8], positions: &[u64], buffer: &mut [u8], place: u64) -> 
         buffer.new }
 {
     let t = plan::joint(image, positions, buffer.len() as u64, place);
-    let v = t.verdict;
-    if refusals::is_done(v) {
-        let x = archive::header(image);
-        path::put_joint(image, x, positions, buffer, place as usize, t.length);
+    if t.verdict.is_ok() {
+        path::put_joint(
+            Image::known(image),
+            positions,
+            buffer,
+            place as usize,
+            t.length,
+        );
     }
     t
 }

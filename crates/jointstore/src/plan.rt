@@ -5,127 +5,118 @@ ghost use Rattle.skiplist.specs.Length.{tallest};
 ghost use Rattle.archive.specs.Reading.{count_of};
 ghost use Rattle.jointbytes.specs.Positions.{is_set, within};
 ghost use Rattle.store.specs.Answers.{entries_at};
-ghost use Rattle.store.specs.Passes.{Opened, run_of};
+ghost use Rattle.store.specs.Passes.{run_of, proved_or};
 ghost use Rattle.jointstore.specs.Answers.{joint_at, all_shallow, joint_of};
-ghost use Rattle.jointstore.specs.Passes.{shared_at, Reaches, piece_at, answer_of};
+ghost use Rattle.jointstore.specs.Passes.{shared_at, Reaches, piece_at};
 
-use archive::Layout;
+use archive::Image;
 use jointbytes::{HEADER, SHARED, positions};
 use proofbytes::{ENTRY, MOST_ENTRIES, STOP};
-use refusals::{Refusal, Verdict};
+use refusals::Refusal;
 use store::Proved;
 use store::plan::Mark;
 
 // The entries that the paths to columns p and q share: the right entries of the path to q past columns up to p, and the
 // down entries above all columns between the two.
-pub fn shared(b: &[u8], x: Layout, p: usize, q: usize) -> u64
-    requires { Opened b.now x × (p < q) × (q ≤ x.count) }
-    ensures { (result ≡ shared_at b.now p q) × (result ≤ entries_at b.now q) }
+pub fn shared(image: Image<'_>, p: usize, q: usize) -> u64
+    requires { (p < q) × (q ≤ count_of image.bytes.now) }
+    ensures { (result ≡ shared_at image.entry.bytes.now p q)
+        × (result ≤ entries_at image.entry.bytes.now q) }
 {
     let none = Mark { level: 0, count: 0 };
-    let between = store::plan::passing(b, x, none, p, q);
-    let all = store::plan::passing(b, x, between, 0, p);
-    all.count - between.count + store::plan::above(b, x, between.level, q)
+    let between = store::plan::passing(image, none, p, q);
+    let all = store::plan::passing(image, between, 0, p);
+    all.count - between.count + store::plan::above(image, between.level, q)
 }
 
 // The greatest height of the columns after column p up to column q.
-pub fn between(b: &[u8], x: Layout, p: usize, q: usize) -> u64
-    requires { Opened b.now x × (p ≤ q) × (q ≤ x.count) }
-    ensures { result ≡ tallest (run_of b.now p q) }
+#[tactic(auto, using(crate::proofs::CountLaws::between_is))]
+pub fn between(image: Image<'_>, p: usize, q: usize) -> u64
+    requires { (p ≤ q) × (q ≤ count_of image.bytes.now) }
+    ensures { result ≡ tallest (run_of image.entry.bytes.now p q) }
 {
-    let none = Mark { level: 0, count: 0 };
-    let m = store::plan::passing(b, x, none, p, q);
-    m.level
+    store::plan::passing(image, Mark { level: 0, count: 0 }, p, q).level
 }
 
 // The last column before the first one after column q that is taller than a level.
-pub fn reach(b: &[u8], x: Layout, level: u64, q: usize) -> usize
-    requires { Opened b.now x × (q ≤ x.count) }
-    ensures { Reaches b.now level q result }
+pub fn reach(image: Image<'_>, level: u64, q: usize) -> usize
+    requires { q ≤ count_of image.bytes.now }
+    ensures { Reaches image.entry.bytes.now level q result }
 {
-    let n = x.count;
-    let mut e = q;
-    while e < n {
-        if level < archive::height(b, x, e) {
+    for e in q..image.count() {
+        if level < image.height(e) {
             return e;
         }
-        e += 1;
     }
-    e
+    image.count()
 }
 
 // The bytes of the proof of q after that of p.
-fn piece(b: &[u8], x: Layout, p: usize, q: usize) -> u64
-    requires { Opened b.now x × (p < q) × (q ≤ x.count) }
-    ensures { (result ≡ length (piece_at b.now p q)) × (result < 1000000) }
+#[tactic(auto, using(store::proofs::ProofLaws::counted, crate::proofs::PieceLaws::length_piece))]
+fn piece(image: Image<'_>, p: usize, q: usize) -> u64
+    requires { (p < q) × (q ≤ count_of image.bytes.now) }
+    ensures { (result ≡ length (piece_at image.entry.bytes.now p q)) × (result < 1000000) }
 {
-    let c = shared(b, x, p, q);
-    let k = store::plan::entries(b, x, q);
+    let c = shared(image, p, q);
+    let k = store::plan::entries(image, q);
     (SHARED as u64) + (ENTRY as u64) * (k - c) + (STOP as u64)
 }
 
 // Not 6: no path has more than 200 entries.
-fn shallow(b: &[u8], x: Layout, ps: &[u64]) -> bool
-    requires { Opened b.now x × (within (count_of b.now) ps.now ≡ true) }
-    ensures { result ≡ all_shallow b.now ps.now }
+fn shallow(image: Image<'_>, ps: &[u64]) -> bool
+    requires { within (count_of image.bytes.now) ps.now ≡ true }
+    ensures { result ≡ all_shallow image.entry.bytes.now ps.now }
 {
-    let mut i = 0;
-    while i < ps.len() {
-        if (MOST_ENTRIES as u64) < store::plan::entries(b, x, ps[i] as usize) {
+    for p in ps {
+        if (MOST_ENTRIES as u64) < store::plan::entries(image, *p as usize) {
             return false;
         }
-        i += 1;
     }
     true
 }
 
 // The length of the joint proof.
-fn size(b: &[u8], x: Layout, ps: &[u64]) -> u64
-    requires { Opened b.now x × (is_set ps.now ≡ true) × (within (count_of b.now) ps.now ≡ true) }
-    ensures { result ≡ length (joint_at b.now ps.now) }
+fn size(image: Image<'_>, ps: &[u64]) -> u64
+    requires { (is_set ps.now ≡ true) × (within (count_of image.bytes.now) ps.now ≡ true) }
+    ensures { result ≡ length (joint_at image.entry.bytes.now ps.now) }
 {
-    let mut p = ps[0] as usize;
-    let mut t = (HEADER as u64) + (ENTRY as u64) * store::plan::entries(b, x, p) + (STOP as u64);
-    let mut i = 1;
-    while i < ps.len() {
-        let q = ps[i] as usize;
-        t += piece(b, x, p, q);
-        p = q;
-        i += 1;
+    let k = store::plan::entries(image, ps[0] as usize);
+    let mut t = (HEADER as u64) + (ENTRY as u64) * k + (STOP as u64);
+    for i in 1..ps.len() {
+        t += piece(image, ps[i - 1] as usize, ps[i] as usize);
     }
     t
 }
 
-// The answer where only the room is left to look at.
-fn answered(room: u64, place: u64, size: u64) -> Proved
-    ensures { result ≡ answer_of room place size }
+// What is planned, or the first refusal that is due: 1, 13, 2, 6, 5.
+#[tactic(auto, unfolding(crate::specs::Answers::joint_of, crate::specs::Answers::joint_verdict))]
+fn planned(b: &[u8], ps: &[u64], room: u64, place: u64) -> Result<Proved, Refusal>
+    ensures { proved_or result ≡ joint_of b.now ps.now room place }
 {
-    if store::plan::fits(room, place, size) {
-        return Proved {
-            verdict: Verdict::Done,
-            length: size,
-            entries: 0,
-        };
+    let image = Image::new(b).ok_or(Refusal::BadImage)?;
+    if !positions::is_set(ps) {
+        return Err(Refusal::BadSet);
     }
-    store::plan::refused(Refusal::NoRoom)
+    if !positions::within(image.count() as u64, ps) {
+        return Err(Refusal::BadPosition);
+    }
+    if !shallow(image, ps) {
+        return Err(Refusal::TooDeep);
+    }
+    let size = size(image, ps);
+    if !store::plan::fits(room, place, size) {
+        return Err(Refusal::NoRoom);
+    }
+    Ok(Proved {
+        verdict: Ok(()),
+        length: size,
+        entries: 0,
+    })
 }
 
-// What is answered: 1, 13, 2, 6, 5.
+// What is answered.
 pub fn joint(b: &[u8], ps: &[u64], room: u64, place: u64) -> Proved
     ensures { result ≡ joint_of b.now ps.now room place }
 {
-    if !archive::is_sound(b) {
-        return store::plan::refused(Refusal::BadImage);
-    }
-    let x = archive::header(b);
-    if !positions::is_set(ps) {
-        return store::plan::refused(Refusal::BadSet);
-    }
-    if !positions::within(x.count as u64, ps) {
-        return store::plan::refused(Refusal::BadPosition);
-    }
-    if !shallow(b, x, ps) {
-        return store::plan::refused(Refusal::TooDeep);
-    }
-    answered(room, place, size(b, x, ps))
+    planned(b, ps, room, place).unwrap_or_else(store::plan::refused)
 }

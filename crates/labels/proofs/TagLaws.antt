@@ -1,13 +1,12 @@
 -- A tag's answer: done with the digest of the block's message, refused with zeros for readings that are too long. A message is
 -- one-to-one in time and readings, and two blocks of one tag are the same or their messages clash.
 -- Assumes nothing.
+use Rattle.std.specs.Prelude.{Ok, Err, is_ok}
 use Rattle.std.proofs.Common.{◌≡◌, ℕ, ◌+◌, ◌<◌, ◌≤◌, true, false, ◌⊎◌, List, [], ◌∷◌, ◌++◌, length, drop, sym, refl, ap, ◌∙◌, inl, inr, arith, drop_at, le-ltb, lt-ltb}
 use mathlib.Core.Bool.{false≢true}
 use mathlib.Core.List.Memᴰ
-use Rattle.refusals.specs.declared.Verdict.{Verdict}
-use Rattle.refusals.specs.declared.Verdict.TheVariants.{Done, Refused}
 use Rattle.refusals.specs.declared.Refusal.TheVariants.{LongMessage}
-use Rattle.refusals.specs.Order.{verdict_of, settled, is_done}
+use Rattle.refusals.specs.Order.{verdict_of, settled, Verdict}
 use Rattle.refusals.proofs.OrderLaws.{done_settled, refused-settled}
 use Rattle.octets.specs.Numbers.{be, number_at}
 use Rattle.octets.specs.Runs.{same, patch}
@@ -39,12 +38,12 @@ head_written d x y z time n h ex ey ez =
 -- ---- the answers
 
 pub tag-done : (time : ℕ) (readings : List ℕ) → length readings ≤ most_readings
-    → tag_of time readings ≡ record { verdict = Done; tag = sha256 (tag_message time readings) }
+    → tag_of time readings ≡ record { verdict = Ok tt; tag = sha256 (tag_message time readings) }
 unfolding tag_of
 tag-done time readings h = rw (le-ltb most_readings (length readings) h)
 
 pub tag-refused : (time : ℕ) (readings : List ℕ) → most_readings < length readings
-    → tag_of time readings ≡ record { verdict = Refused LongMessage; tag = zeros }
+    → tag_of time readings ≡ record { verdict = Err LongMessage; tag = zeros }
 unfolding tag_of
 tag-refused time readings h = rw (lt-ltb most_readings (length readings) h)
 
@@ -53,15 +52,15 @@ as_tag time readings r e = record { verdict = ap (λ (x : Tagged). x.verdict) e;
 
 -- the readings hashed after the head
 pub tagged : (time : ℕ) (readings head bytes : List ℕ) → length readings ≤ most_readings → head ≡ tag_head time (length readings)
-    → bytes ≡ sha256 (head ++ readings) → Tags time readings (record { verdict = Done; tag = bytes })
+    → bytes ≡ sha256 (head ++ readings) → Tags time readings (record { verdict = Ok tt; tag = bytes })
 unfolding tag_message
 tagged time readings head bytes h eh eb =
     as_tag time readings _
-    (ap (λ (b : List ℕ). record { verdict = Done; tag = b }) (eb ∙ ap (λ (x : List ℕ). sha256 (x ++ readings)) eh)
+    (ap (λ (b : List ℕ). record { verdict = Ok tt; tag = b }) (eb ∙ ap (λ (x : List ℕ). sha256 (x ++ readings)) eh)
     ∙ sym (tag-done time readings h))
 
 pub match-done : (tag : List ℕ) (time : ℕ) (readings : List ℕ) → length readings ≤ most_readings
-    → match_of tag time readings ≡ record { verdict = Done; yes = same (sha256 (tag_message time readings)) tag }
+    → match_of tag time readings ≡ record { verdict = Ok tt; yes = same (sha256 (tag_message time readings)) tag }
 unfolding match_of
 match-done tag time readings h = rw (le-ltb most_readings (length readings) h)
 
@@ -72,28 +71,28 @@ unfolding match_of
 match-yes tag time readings e = go (verdict_of (tag_rules readings)) e
   where
     go : (v : Verdict) → settled v (same (sha256 (tag_message time readings)) tag) false ≡ true → sha256 (tag_message time readings) ≡ tag
-    go Done e = same-true (sha256 (tag_message time readings)) tag e
-    go (Refused w) e = absurd (false≢true e)
+    go (Ok tt) e = same-true (sha256 (tag_message time readings)) tag e
+    go (Err w) e = absurd (false≢true e)
 
 -- matching, from the tag's answer
-pub as_match : (tag : List ℕ) (time : ℕ) (readings : List ℕ) (t : Tagged) → Tags time readings t → is_done t.verdict ≡ true
+pub as_match : (tag : List ℕ) (time : ℕ) (readings : List ℕ) (t : Tagged) → Tags time readings t → is_ok t.verdict ≡ true
     → Matches tag time readings (record { verdict = t.verdict; yes = same t.tag tag })
 unfolding tag_of match_of
 as_match tag time readings t p e =
     let v = verdict_of (tag_rules readings) in
     let m = sha256 (tag_message time readings) in
-    let d : is_done v ≡ true = rw p.verdict at e in
+    let d : is_ok v ≡ true = rw p.verdict at e in
     record {
       verdict = p.verdict;
       yes = rw (p.tag, done_settled v m zeros d, done_settled v (same m tag) false d);
     }
 
-pub as_refused : (tag : List ℕ) (time : ℕ) (readings : List ℕ) (t : Tagged) → Tags time readings t → is_done t.verdict ≡ false
+pub as_refused : (tag : List ℕ) (time : ℕ) (readings : List ℕ) (t : Tagged) → Tags time readings t → is_ok t.verdict ≡ false
     → Matches tag time readings (record { verdict = t.verdict; yes = false })
 unfolding tag_of match_of
 as_refused tag time readings t p e =
     let v = verdict_of (tag_rules readings) in
-    let d : is_done v ≡ false = rw p.verdict at e in
+    let d : is_ok v ≡ false = rw p.verdict at e in
     record {
       verdict = p.verdict;
       yes = rw (refused-settled v (same (sha256 (tag_message time readings)) tag) false d);

@@ -17,6 +17,7 @@ use refusals::{Refusal, Verdict};
 // The most bytes of readings that a block has: with the seven bytes before them the longest message.
 pub const MOST_READINGS: usize = 4089;
 
+// Structs and no Results: the pledges say what stands in each field after a refusal too.
 #[derive(Clone, Copy)]
 pub struct Tagged {
     pub verdict: Verdict,
@@ -35,9 +36,9 @@ fn put_head(d: &mut [u8], time: u64, readings: u64)
     requires { (length d.old ≡ 7) × (readings ≤ most_readings) }
     ensures { d.new ≡ tag_head time readings }
 {
-    octets::put_one(d, 0, 1);
-    octets::put_two(d, 1, 4 + readings);
-    octets::put_four(d, 3, time);
+    octets::put_number::<1>(d, 0, 1);
+    octets::put_number::<2>(d, 1, 4 + readings);
+    octets::put_number::<4>(d, 3, time);
 }
 
 // A block's tag: the digest of its time and readings; 11 for readings over 4,089 bytes.
@@ -46,35 +47,27 @@ pub fn tag(time: u32, readings: &[u8]) -> Tagged
 {
     if MOST_READINGS < readings.len() {
         return Tagged {
-            verdict: Verdict::Refused(Refusal::LongMessage),
+            verdict: Err(Refusal::LongMessage),
             tag: [0u8; 32],
         };
     }
     let mut head = [0u8; 7];
     put_head(&mut head, time as u64, readings.len() as u64);
-    let bytes = hashed_joined(&head, readings);
     Tagged {
-        verdict: Verdict::Done,
-        tag: bytes,
+        verdict: Ok(()),
+        tag: hashed_joined(&head, readings),
     }
 }
 
 // Is this the tag of that block? 11 for readings over 4,089 bytes.
+#[tactic(auto, using(crate::proofs::TagLaws::as_match, crate::proofs::TagLaws::as_refused))]
 pub fn matches(tag: [u8; 32], time: u32, readings: &[u8]) -> Matched
     ensures { Matches tag time readings.now result }
 {
     let t = self::tag(time, readings);
-    let v = t.verdict;
-    if refusals::is_done(v) {
-        let bytes = t.tag;
-        return Matched {
-            verdict: v,
-            yes: octets::same32(bytes, tag),
-        };
-    }
     Matched {
-        verdict: v,
-        yes: false,
+        verdict: t.verdict,
+        yes: t.verdict.is_ok() && t.tag == tag,
     }
 }
 
@@ -83,12 +76,12 @@ pub fn matches(tag: [u8; 32], time: u32, readings: &[u8]) -> Matched
 pub fn height(word: u16) -> u8
     ensures { result ≡ height_of word }
 {
-    let n = u16::trailing_zeros(word);
-    if n < 15 { n as u8 } else { 15 }
+    word.trailing_zeros().min(15) as u8
 }
 
 // What stands at a leaf's right, below a node or at its right, as its rank and label. An empty side is not one of rank 0: a leaf
 // of the head alone has rank 0 and a label.
+// A flag and no Option: leaves and nodes are never empty, and each step would wrap and unwrap one.
 #[derive(Clone, Copy)]
 pub struct Side {
     pub rank: u64,
@@ -112,45 +105,44 @@ fn hashed(m: &[u8]) -> [u8; 32]
     requires { length m.now ≤ longest }
     ensures { result ≡ sha256 m.now }
 {
-    let d = sha256::digest(m);
-    d.bytes
+    sha256::digest(m).bytes
 }
 
-fn hashed_joined<'a>(first: &'a [u8], second: &'a [u8]) -> [u8; 32]
+fn hashed_joined(first: &[u8], second: &[u8]) -> [u8; 32]
     requires { length first.now + length second.now ≤ longest }
     ensures { result ≡ sha256 (first.now ++ second.now) }
 {
-    let d = sha256::digest_joined(first, second);
-    d.bytes
+    sha256::digest_joined(first, second).bytes
 }
 
 // The digest of a message that is not long, put into m.
-fn put_hashed<'a>(m: &'a mut [u8], at: usize, x: &'a [u8])
+// Each of these writes one of the four digests in its place.
+fn put_hashed(m: &mut [u8], at: usize, x: &[u8])
     requires { (at + 32 ≤ length m.old) × (length x.now ≤ longest) }
     ensures { m.new ≡ patch m.old at (sha256 x.now) }
 {
-    let d = hashed(x);
-    octets::copy(m, at, &d);
+    octets::copy(m, at, &hashed(x));
 }
 
 fn put_byte(m: &mut [u8], at: usize, x: u8)
     requires { at + 32 ≤ length m.old }
     ensures { m.new ≡ patch m.old at (sha256 (x ∷ [])) }
 {
-    let x = [x];
-    put_hashed(m, at, &x);
+    put_hashed(m, at, &[x]);
 }
 
+#[tactic(auto, using(octets::proofs::PatchLaws::patch_all))]
 fn put_number(m: &mut [u8], at: usize, n: u64)
     requires { at + 32 ≤ length m.old }
     ensures { m.new ≡ patch m.old at (sha256 (be 4 n)) }
 {
     let mut x = [0u8; 4];
-    octets::put_four(&mut x, 0, n);
+    octets::put_number::<4>(&mut x, 0, n);
     put_hashed(m, at, &x);
 }
 
 // The digest of 32 bytes, or of the ONE byte 0 where there is nothing.
+// A flag and the bytes beside it, as a Side has them.
 fn put_message(m: &mut [u8], at: usize, nothing: bool, bytes: [u8; 32])
     requires { at + 32 ≤ length m.old }
     ensures { m.new ≡ patch m.old at (sha256 (message_of nothing bytes)) }
@@ -167,25 +159,24 @@ fn put_message(m: &mut [u8], at: usize, nothing: bool, bytes: [u8; 32])
 fn label(level: u8, rank: u64, no_third: bool, third: [u8; 32], right: Side) -> [u8; 32]
     ensures { result ≡ label_of sha256 level rank (message_of no_third third) (message right) }
 {
-    let r = right.label;
     let mut m = [0u8; 128];
     put_byte(&mut m, 0, level);
     put_number(&mut m, 32, rank);
     put_message(&mut m, 64, no_third, third);
-    put_message(&mut m, 96, right.empty, r);
+    put_message(&mut m, 96, right.empty, right.label);
     hashed(&m)
 }
 
 // A leaf with its right side.
+// own is a number: it is added to the rank, and the bytes may hold any.
 #[tactic(auto, unfolding(crate::specs::CodeSides::leaf_of))]
 pub fn leaf(own: u64, tag: [u8; 32], right: Side) -> Side
     ensures { result ≡ leaf_of (item_of own tag) right }
 {
-    let n = std::num::wrapping_add_u64(own, right.rank);
-    let l = label(0, n, own == 0, tag, right);
+    let rank = own.wrapping_add(right.rank);
     Side {
-        rank: n,
-        label: l,
+        rank,
+        label: label(0, rank, own == 0, tag, right),
         empty: false,
     }
 }
@@ -195,12 +186,10 @@ pub fn leaf(own: u64, tag: [u8; 32], right: Side) -> Side
 pub fn node(level: u8, lower: Side, right: Side) -> Side
     ensures { result ≡ node_of level lower right }
 {
-    let n = std::num::wrapping_add_u64(lower.rank, right.rank);
-    let t = lower.label;
-    let l = label(level, n, lower.empty, t, right);
+    let rank = lower.rank.wrapping_add(right.rank);
     Side {
-        rank: n,
-        label: l,
+        rank,
+        label: label(level, rank, lower.empty, lower.label, right),
         empty: false,
     }
 }

@@ -3,4 +3,3 @@ pub mod PartLaws
 pub mod NumberLaws
 pub mod RunLaws
 pub mod KeepLaws
-mod Moves

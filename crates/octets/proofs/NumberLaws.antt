@@ -1,14 +1,15 @@
 -- Laws of numbers in bytes: `be` and `number_at` undo one another, and `be` is one-to-one below 256 ^ k.
 -- Assumes nothing.
-use Prim.Native.Nat.{ℕ, zero, suc, ◌+◌, ◌*◌, ◌/◌, ◌%◌, ◌^◌, ◌≤◌, ◌<◌}
+use Prim.Native.Nat.{ℕ, zero, suc, ◌+◌, ◌-◌, ◌*◌, ◌/◌, ◌%◌, ◌^◌, ◌≤◌, ◌<◌}
 use mathlib.Core.Path.{◌≡◌, refl, sym, ap, ◌∙◌}
 use mathlib.Core.List.{List, [], ◌∷◌, ◌++◌}
-use native.Mathlib.Nat.{add-zero, zero-add}
+use native.Mathlib.Nat.{zero-add, add-zero, suc-add}
 use native.Mathlib.Omega.{arith}
-use lib.ListN.{length, get_or, length-append, get_or-append}
+use lib.ListN.{length, set, get_or, length-append, get_or-append}
 use lib.Seq.{get_or-append-add, get_or-append_seam}
 use Rattle.octets.specs.Numbers.{be, number_at, Bytes}
-use Rattle.octets.specs.Runs.{part}
+use Rattle.octets.specs.Runs.{patch, part}
+use Rattle.octets.proofs.PatchLaws.{of_set, patch_before}
 use Rattle.octets.proofs.PartLaws.{part_none, part-snoc}
 
 pub length-be : (k n : ℕ) → length (be k n) ≡ k
@@ -23,24 +24,28 @@ number_at-same zero s t a b h = refl
 number_at-same (suc k) s t a b h =
     rw (number_at-same k s t a b (λ i l. h i (omega arith)), h k (omega arith))
 
-pub number_at_bound : (k : ℕ) (s : List ℕ) (a : ℕ) → Bytes s → number_at k s a < 256 ^ k
-unfolding number_at
-number_at_bound zero s a h = omega arith
-number_at_bound (suc k) s a h = omega (arith, number_at_bound k s a h, h (a + k))
+-- a number of fewer than eight bytes has room for one more
+powers : (k d : ℕ) → 256 ^ k ≤ 256 ^ (d + k)
+powers k zero = rw zero-add (omega arith)
+powers k (suc d) = rw suc-add (omega (arith, powers k d))
 
--- one, two and four bytes, spelled out
+pub room : (k n : ℕ) → k < 8 → n < 256 ^ k → n < 256 ^ 7
+room k n h l =
+    let e : 7 - k + k ≡ 7 = omega arith in
+    let g : 256 ^ k ≤ 256 ^ 7 = rw e at (powers k (7 - k)) in
+    omega arith
+
+-- one byte, spelled out
 pub read_one : (s : List ℕ) (a : ℕ) → number_at 1 s a ≡ get_or s a 0
 unfolding number_at
 read_one s a = rw (add-zero a) (omega arith)
 
-pub read_two : (s : List ℕ) (a : ℕ) → number_at 2 s a ≡ get_or s a 0 * 256 + get_or s (a + 1) 0
-unfolding number_at
-read_two s a = rw (add-zero a) (omega arith)
-
-pub read_four : (s : List ℕ) (a : ℕ)
-    → number_at 4 s a ≡ ((get_or s a 0 * 256 + get_or s (a + 1) 0) * 256 + get_or s (a + 2) 0) * 256 + get_or s (a + 3) 0
-unfolding number_at
-read_four s a = rw (add-zero a) (omega arith)
+-- the last of the bytes written, and then the number without it in those before
+pub put_last : (d : List ℕ) (a k n : ℕ) → a + suc k ≤ length d
+    → patch (set d (a + k) (n % 256)) a (be k (n / 256)) ≡ patch d a (be (suc k) n)
+put_last d a k n h =
+    rw (of_set d (a + k) (n % 256) (omega arith))
+    (patch_before d (be k (n / 256)) (n % 256 ∷ []) a (a + k) (ap (λ (m : ℕ). a + m) (length-be k (n / 256))) (omega arith))
 
 -- what is written is read back
 pub read_be : (k n : ℕ) → n < 256 ^ k → number_at k (be k n) 0 ≡ n

@@ -1,13 +1,13 @@
 -- Laws of `part`: its length, one element more at either end, parts side by side, and the part that a patch wrote.
 -- Assumes nothing.
-use Prim.Native.Nat.{ℕ, suc, ◌+◌, ◌≤◌, ◌<◌}
-use mathlib.Core.Path.{◌≡◌, refl, sym, ◌∙◌}
-use mathlib.Core.List.{List, [], ◌∷◌, ◌++◌}
+use Prim.Native.Nat.{ℕ, suc, ◌+◌, ◌-◌, ◌≤◌, ◌<◌}
+use mathlib.Core.Path.{◌≡◌, refl, ◌∙◌}
+use mathlib.Core.List.{List, [], ◌∷◌, ◌++◌, append_assoc}
 use native.Mathlib.Omega.{arith}
 use lib.ListN.{length, take, drop, get_or, length-drop}
 use lib.Seq.{length-take-le, take-suc, take-add, take_at, take-length, drop-cons, drop-drop, drop_at, get_or-drop, get_or-take}
+use Rattle.std.specs.List.{copy_within}
 use Rattle.octets.specs.Runs.{patch, part}
-use Rattle.octets.proofs.PatchLaws.{patch_all}
 
 pub length-part : (xs : List ℕ) (a k : ℕ) → a + k ≤ length xs → length (part xs a k) ≡ k
 unfolding part
@@ -53,9 +53,9 @@ pub part_middle : (p q r : List ℕ) (a k : ℕ) → length p ≡ a → length q
 unfolding part
 part_middle p q r a k ea ek = rw (drop_at p (q ++ r) a ea) (take_at q r k ek)
 
--- all of a part over all of a list
-pub over_part : (xs s : List ℕ) (a k m : ℕ) → length xs ≡ k → m ≡ k → a + k ≤ length s
-    → patch xs 0 (take m (drop a s)) ≡ part s a k
-unfolding part
-over_part xs s a k m e f h =
-    rw f (patch_all xs (take k (drop a s)) (e ∙ sym (length-take-le k (drop a s) (simp length-drop (omega arith)))))
+-- a part copied within its list
+pub slid : (xs : List ℕ) (from to k : ℕ) → from + k ≤ length xs → copy_within xs from (from + k) to ≡ patch xs to (part xs from k)
+unfolding patch part
+slid xs from to k h =
+    let e : from + k - from ≡ k = omega arith in
+    rw (e, append_assoc (take to xs) (take k (drop from xs)), length-take-le k (drop from xs) (simp length-drop (omega arith)))

@@ -1,13 +1,13 @@
 -- Laws of `patch`: what a store, a lent part and patches side by side make of a list, and what is read from it afterwards.
 -- Assumes nothing.
 use Prim.Native.Nat.{ℕ, suc, ◌+◌, ◌-◌, ◌≤◌, ◌<◌}
-use mathlib.Core.Path.{◌≡◌, refl, sym, ap, ◌∙◌}
+use mathlib.Core.Path.{◌≡◌, refl, sym, ◌∙◌}
 use mathlib.Core.List.{List, [], ◌∷◌, ◌++◌, append_assoc, append-nil}
 use native.Mathlib.Nat.{zero-add, add-zero, add_assoc, suc-add, add-suc}
 use native.Mathlib.Omega.{arith}
 use native.Mathlib.Numerals.{add-one}
-use lib.ListN.{length, take, drop, set, get_or, length-append, length-drop, take-append-drop, get_or-append}
-use lib.Seq.{set_split, set_at, length-take-le, take_at, take-suc, take-take, take-append-le, drop_at, drop-drop, drop-append-add, drop-length, get_or-take, get_or-drop, get_or-append-add}
+use lib.ListN.{length, take, drop, set, get_or, length-append, length-drop, take-append-drop}
+use lib.Seq.{set_split, set_at, length-take-le, take_at, take-suc, take-take, take-append-le, drop_at, drop-drop, drop-append-add, drop-length}
 use borrow.Rule.Slice.PartMut.{put_mid}
 use Rattle.octets.specs.Runs.{patch}
 
@@ -37,6 +37,9 @@ pub of_part : (xs ys : List ℕ) (a k : ℕ) → length ys ≡ k → put_mid a k
 unfolding patch
 of_part xs ys a k e = rw (← e, drop-drop)
 
+pub of_lent : (xs ys : List ℕ) (a k : ℕ) → length ys ≡ k → put_mid a (a + k - a) xs ys ≡ patch xs a ys
+of_lent xs ys a k e = let f : a + k - a ≡ k = omega arith in rw f (of_part xs ys a k e)
+
 -- the front kept, some put in after it, and the rest
 behind : (p q zs : List ℕ) (b : ℕ) → length p ≡ b
     → take b (p ++ q) ++ (zs ++ drop (b + length zs) (p ++ q)) ≡ p ++ (zs ++ drop (length zs) q)
@@ -64,11 +67,6 @@ patch_before xs ys zs a b e h =
     )
     (let q : b + length zs ≡ a + (length ys + length zs) = omega arith in simp (append_assoc, length-append, q))
 
--- a lent part right behind a patch
-pub put_next : (xs ys zs : List ℕ) (a b k : ℕ) → a + length ys ≡ b → b ≤ length xs → length zs ≡ k
-    → put_mid b k (patch xs a ys) zs ≡ patch xs a (ys ++ zs)
-put_next xs ys zs a b k eb h ek = of_part (patch xs a ys) zs b k ek ∙ patch_next xs ys zs a b eb h
-
 -- a store right behind a patch
 pub set_next : (xs ys : List ℕ) (a b v : ℕ) → a + length ys ≡ b → b < length xs
     → set (patch xs a ys) b v ≡ patch xs a (ys ++ (v ∷ []))
@@ -83,37 +81,11 @@ set_before xs ys a v h =
     (set_at (take a xs) (get_or xs a 0) (ys ++ drop (suc a + length ys) xs) v a (length-take-le a xs (omega arith))
     ∙ rw (suc-add, add-suc))
 
--- two stores and four side by side
+-- two stores side by side
 pub of_two : (xs : List ℕ) (a v w : ℕ) → a + 2 ≤ length xs → set (set xs a v) (a + 1) w ≡ patch xs a (v ∷ w ∷ [])
 of_two xs a v w h = rw (of_set xs a v (omega arith)) (set_next xs (v ∷ []) a (a + 1) w refl (omega arith))
 
-pub of_four : (xs : List ℕ) (a v w x y : ℕ) → a + 4 ≤ length xs
-    → set (set (set (set xs a v) (a + 1) w) (a + 2) x) (a + 3) y ≡ patch xs a (v ∷ w ∷ x ∷ y ∷ [])
-of_four xs a v w x y h =
-    rw (of_two xs a v w (omega arith), set_next xs (v ∷ w ∷ []) a (a + 2) x refl (omega arith))
-    (set_next xs (v ∷ w ∷ x ∷ []) a (a + 3) y refl (omega arith))
-
 -- ---- what is read after a patch
-
--- what lies before it
-pub get_or_before : (xs ys : List ℕ) (a j : ℕ) → j < a → a ≤ length xs → get_or (patch xs a ys) j 0 ≡ get_or xs j 0
-unfolding patch
-get_or_before xs ys a j h l =
-    get_or-append (take a xs) (ys ++ drop (a + length ys) xs) 0 j (rw (length-take-le a xs l) h) ∙ get_or-take a xs j 0 h
-
--- what lies behind it
-pub get_or_behind : (xs ys : List ℕ) (a j : ℕ) → a + length ys ≤ j → a + length ys ≤ length xs
-    → get_or (patch xs a ys) j 0 ≡ get_or xs j 0
-unfolding patch
-get_or_behind xs ys a j h l =
-    let n : length (take a xs ++ ys) ≡ a + length ys = simp (length-append, length-take-le a xs (omega arith)) in
-    let e : j ≡ length (take a xs ++ ys) + (j - (a + length ys)) = rw n (omega arith) in
-    let f : (a + length ys) + (j - (a + length ys)) ≡ j = omega arith in
-    rw (← append_assoc (take a xs) ys (drop (a + length ys) xs))
-    (ap (λ (k : ℕ). get_or (take a xs ++ ys ++ drop (a + length ys) xs) k 0) e
-    ∙ get_or-append-add (take a xs ++ ys) (drop (a + length ys) xs) (j - (a + length ys)) 0
-    ∙ get_or-drop (a + length ys) xs (j - (a + length ys)) 0
-    ∙ ap (λ (k : ℕ). get_or xs k 0) f)
 
 -- the front up to it, and the rest behind it
 pub take-patch : (xs ys : List ℕ) (a : ℕ) → a ≤ length xs → take a (patch xs a ys) ≡ take a xs

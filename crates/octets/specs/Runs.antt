@@ -1,6 +1,7 @@
 -- Runs of bytes in a buffer: one written over another, two compared, one tested for zeros.
 -- Assumes nothing.
-use Rattle.std.specs.Prelude.{ℕ, ◌+◌, List, [], ◌∷◌, ◌++◌, Bool, true, false, cond, eqb, length, take, drop, replicate}
+use Rattle.std.specs.Prelude.{ℕ, ◌+◌, List, ◌++◌, Bool, nat_eq, length, take, drop, replicate}
+use Rattle.std.specs.Cmp.Lexicographic.{pointwise}
 
 -- xs with ys written over it from `at` on; the other elements stay
 unfoldable pub patch : List ℕ → ℕ → List ℕ → List ℕ
@@ -12,10 +13,7 @@ part xs at k = take k (drop at xs)
 
 -- are two runs the same, length and all?
 abbrev pub same : List ℕ → List ℕ → Bool
-same [] [] = true
-same [] (y ∷ ys) = false
-same (x ∷ xs) [] = false
-same (x ∷ xs) (y ∷ ys) = cond (eqb x y) (same xs ys) false
+same xs ys = pointwise nat_eq xs ys
 
 -- is every element 0?
 abbrev pub all_zero : List ℕ → Bool

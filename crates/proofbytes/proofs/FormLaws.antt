@@ -1,11 +1,13 @@
 -- What a form that is kept says of the bytes: the header's length, and, entry by entry, the fields.
 -- Assumes nothing.
-use Prim.Native.Nat.{ℕ, ◌-◌, ◌≤◌, ◌%◌}
-use mathlib.Core.Path.{◌≡◌, refl}
+use Prim.Native.Nat.{ℕ, ◌+◌, ◌-◌, ◌≤◌, ◌%◌}
+use mathlib.Core.Path.{◌≡◌, refl, sym, ap}
 use mathlib.Core.Logic.{◌⊎◌, inl, inr}
 use mathlib.Core.Bool.{Bool, true, false, cond, ◌&&◌}
 use mathlib.Core.List.{List}
 use native.Mathlib.Omega.{arith}
+use Rattle.std.specs.Prelude.{Option, None, Some}
+use Rattle.std.proofs.lemmas.Option.{none-some, cond_some}
 use lib.Dec.{leb, eqb}
 use lib.ListN.{length, get_or}
 use borrow.Author.Tests.{leb-true, eqb-true, eqb-false}
@@ -17,27 +19,22 @@ use Rattle.skiplist.specs.Label.{sides}
 use Rattle.skiplist.proofs.Cases.{both}
 use Rattle.proofbytes.specs.declared.read.Fields.{Fields}
 use Rattle.proofbytes.specs.declared.read.Beside.{Beside}
-use Rattle.proofbytes.specs.declared.read.Judged.{Judged}
-use Rattle.proofbytes.specs.declared.read.Formed.TheVariants.{Broken, Sound}
-use Rattle.proofbytes.specs.declared.read.Judged.TheVariants.{Unfit, Fits}
-use Rattle.proofbytes.specs.Reading.{count_of, Sized, place_of}
+use Rattle.proofbytes.specs.declared.read.Proven.{Proven}
+use Rattle.proofbytes.specs.Reading.{at, count_of, Sized, place_of}
 use Rattle.proofbytes.specs.Form.{within, down_of, right_of, leaf_fits, pass_of, judged_of, beside_fits, stop_fits}
-use Rattle.proofbytes.specs.Form.{header_fits, walk_fits, well_formed, formed_of}
+use Rattle.proofbytes.specs.Form.{header_fits, walk_fits, well_formed, proven_by, formed_of}
 
-unfit : {P : Type 0} {n : ℕ} → Unfit ≡ Fits n → P
-unfit e = let z : ◌≡◌ {A = ℕ} 0 1 = cc in absurd (omega arith)
-
--- by a test whose other arm is Unfit; by a test of two arms
-only : {n : ℕ} (b : Bool) (x : Judged) → cond b x Unfit ≡ Fits n → (b ≡ true) × (x ≡ Fits n)
+-- by a test whose other arm is None; by a test of two arms
+only : {A : Type 0} {y : A} (b : Bool) (x : Option A) → cond b x None ≡ Some y → (b ≡ true) × (x ≡ Some y)
 only true x e = (refl, e)
-only false x e = unfit e
+only false x e = absurd (none-some _ e)
 
 arms : {A : Type 0} {z : A} (b : Bool) (x y : A) → cond b x y ≡ z → ((b ≡ true) × (x ≡ z)) ⊎ ((b ≡ false) × (y ≡ z))
 arms true x y e = inl (refl, e)
 arms false x y e = inr (refl, e)
 
-fits_inj : {m n : ℕ} → Fits m ≡ Fits n → m ≡ n
-fits_inj e = cc
+some_inj : {A : Type 0} {x y : A} → Some x ≡ Some y → x ≡ y
+some_inj e = cc
 
 pub leaf_cases : (own : ℕ) (tag : List ℕ) → leaf_fits own tag ≡ true → ((own ≡ 0) × (all_zero tag ≡ true)) ⊎ (own ≡ 1)
 unfolding leaf_fits
@@ -67,7 +64,7 @@ pub data Fitting (e : Fields) (most next : ℕ) : Type 0 where
   is_pass : e.kind ≡ 1 → e.level ≡ 0 → leaf_fits e.number e.bytes ≡ true → 0 ≡ next → Fitting e most next
 
 module _ (e : Fields) (most next : ℕ) where
-  as_down : e.kind ≡ 0 → within 1 15 e.level ≡ true → down_of e.level e.number most ≡ Fits next
+  as_down : e.kind ≡ 0 → within 1 15 e.level ≡ true → down_of e.level e.number most ≡ Some next
       → Fitting e most next
   unfolding down_of
   as_down k w f =
@@ -76,37 +73,37 @@ module _ (e : Fields) (most next : ℕ) where
       let d = both (within 1 4096 e.number) _ b.0 in
       let r = both (leb 1 e.number) _ d.0 in
       is_down k (leb-true _ _ a.0) (leb-true _ _ a.1) (leb-true _ _ d.1) (leb-true _ _ r.0)
-      (leb-true _ _ r.1) (fits_inj b.1)
+      (leb-true _ _ r.1) (some_inj b.1)
 
   as_right : e.kind ≡ 1 → eqb e.level 0 ≡ false → leb e.level 15 ≡ true → right_of e.level e.number most
-      ≡ Fits next → Fitting e most next
+      ≡ Some next → Fitting e most next
   unfolding right_of
   as_right k z w f =
       let b = only (leb e.number 4096 && leb e.level most) _ f in
       let d = both (leb e.number 4096) _ b.0 in
       let h = eqb-false e.level 0 z in
-      is_right k (omega (arith, h)) (leb-true _ _ w) (leb-true _ _ d.1) (leb-true _ _ d.0) (fits_inj b.1)
+      is_right k (omega (arith, h)) (leb-true _ _ w) (leb-true _ _ d.1) (leb-true _ _ d.0) (some_inj b.1)
 
-  as_pass : e.kind ≡ 1 → e.level ≡ 0 → pass_of e.number e.bytes ≡ Fits next → Fitting e most next
+  as_pass : e.kind ≡ 1 → e.level ≡ 0 → pass_of e.number e.bytes ≡ Some next → Fitting e most next
   unfolding pass_of
-  as_pass k z f = let b = only (leaf_fits e.number e.bytes) _ f in is_pass k z b.0 (fits_inj b.1)
+  as_pass k z f = let b = only (leaf_fits e.number e.bytes) _ f in is_pass k z b.0 (some_inj b.1)
 
-  pub fitting_cases : judged_of e most ≡ Fits next → Fitting e most next
+  pub fitting_cases : judged_of e most ≡ Some next → Fitting e most next
   unfolding judged_of
   fitting_cases f = kinds (arms (eqb e.kind 0) _ _ f)
     where
       levels : e.kind ≡ 1
-          → ((eqb e.level 0 ≡ true) × (pass_of e.number e.bytes ≡ Fits next))
-          ⊎ ((eqb e.level 0 ≡ false) × (cond (leb e.level 15) (right_of e.level e.number most) Unfit
-          ≡ Fits next)) → Fitting e most next
+          → ((eqb e.level 0 ≡ true) × (pass_of e.number e.bytes ≡ Some next))
+          ⊎ ((eqb e.level 0 ≡ false) × (cond (leb e.level 15) (right_of e.level e.number most) None
+          ≡ Some next)) → Fitting e most next
       levels k (inl t) = as_pass k (eqb-true e.level 0 t.0) t.1
       levels k (inr t) = let a = only (leb e.level 15) _ t.1 in as_right k t.0 a.0 a.1
 
-      kinds : ((eqb e.kind 0 ≡ true) × (cond (within 1 15 e.level) (down_of e.level e.number most) Unfit
-          ≡ Fits next))
+      kinds : ((eqb e.kind 0 ≡ true) × (cond (within 1 15 e.level) (down_of e.level e.number most) None
+          ≡ Some next))
           ⊎ ((eqb e.kind 0 ≡ false) × (cond (eqb e.kind 1)
           (cond (eqb e.level 0) (pass_of e.number e.bytes)
-          (cond (leb e.level 15) (right_of e.level e.number most) Unfit)) Unfit ≡ Fits next))
+          (cond (leb e.level 15) (right_of e.level e.number most) None)) None ≡ Some next))
           → Fitting e most next
       kinds (inl t) = let a = only (within 1 15 e.level) _ t.1 in
           as_down (eqb-true e.kind 0 t.0) a.0 a.1
@@ -150,6 +147,13 @@ header-headed s e =
       stated = eqb-true (number_at 2 s 1) (length s - 3) d.1;
     }
 
+module _ (s : List ℕ) (e : header_fits s ≡ true) where
+  pub form_few : count_of s ≤ 200
+  form_few = (header-headed s e).size.few
+
+  pub form_long : at (count_of s) + 74 ≤ length s
+  form_long = omega (arith, (header-headed s e).size.long)
+
 module _ (s : List ℕ) (e : well_formed s ≡ true) where
   pub form_headed : Headed s
   unfolding well_formed
@@ -159,13 +163,12 @@ module _ (s : List ℕ) (e : well_formed s ≡ true) where
   form_sized = form_headed.size
 
 -- what the form's answer says
-pub formed-broken : (s : List ℕ) → formed_of s ≡ Broken → well_formed s ≡ false
+pub formed-none : (s : List ℕ) → formed_of s ≡ None → well_formed s ≡ false
 unfolding formed_of
-formed-broken s e = go (well_formed s) e
+formed-none s e = go (well_formed s) e
   where
-    go : (b : Bool) → cond b (Sound (proved_position (sides sha256) (place_of s))
-        (proved_rank (sides sha256) (place_of s))) Broken ≡ Broken → b ≡ false
-    go true f = let z : ◌≡◌ {A = ℕ} 0 1 = cc in absurd (omega arith)
+    go : (b : Bool) → cond b (Some (proven_by (place_of s))) None ≡ None → b ≡ false
+    go true f = absurd (none-some _ (sym f))
     go false f = refl
 
 pub record Proved (s : List ℕ) (position rank : ℕ) : Type 0 where
@@ -173,13 +176,8 @@ pub record Proved (s : List ℕ) (position rank : ℕ) : Type 0 where
   pub position_is : proved_position (sides sha256) (place_of s) ≡ position
   pub rank_is : proved_rank (sides sha256) (place_of s) ≡ rank
 
-pub formed-sound : (s : List ℕ) (position rank : ℕ) → formed_of s ≡ Sound position rank → Proved s position rank
+pub formed-some : (s : List ℕ) (x : Proven) → formed_of s ≡ Some x → Proved s x.position x.rank
 unfolding formed_of
-formed-sound s position rank e = go (well_formed s) refl e
-  where
-    go : (b : Bool) → well_formed s ≡ b
-        → cond b (Sound (proved_position (sides sha256) (place_of s)) (proved_rank (sides sha256) (place_of s))) Broken
-        ≡ Sound position rank
-        → Proved s position rank
-    go true w f = record { formed = w; position_is = cc; rank_is = cc }
-    go false w f = let z : ◌≡◌ {A = ℕ} 0 1 = cc in absurd (omega arith)
+formed-some s x e =
+    let a = cond_some (well_formed s) (proven_by (place_of s)) x e in
+    record { formed = a.0; position_is = ap (λ (y : Proven). y.position) a.1; rank_is = ap (λ (y : Proven). y.rank) a.1 }

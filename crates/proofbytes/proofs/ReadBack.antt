@@ -22,7 +22,7 @@ use Rattle.skiplist.specs.Label.{Side}
 use Rattle.skiplist.specs.Blocks.{Sent, item_of, shown}
 use Rattle.proofbytes.specs.declared.read.Fields.{Fields}
 use Rattle.proofbytes.specs.declared.read.Beside.{Beside}
-use Rattle.proofbytes.specs.declared.read.Judged.TheVariants.{Fits}
+use Rattle.std.specs.Prelude.{Some}
 use Rattle.proofbytes.specs.Writing.{header_bytes, field_bytes, entry_bytes, entries_bytes, label_field, stop_fields}
 use Rattle.proofbytes.specs.Writing.{stop_bytes, proof_bytes}
 use Rattle.proofbytes.specs.Reading.{at, fields_at, beside_at, entry_of, side_from, entry_at, entries_from, count_of}
@@ -128,16 +128,16 @@ module _ (r : Side) where
 
 -- ENTRIES that keep the rules fit
 down_fits : (l n : ℕ) (b : List ℕ) (most : ℕ) → 1 ≤ l → l ≤ 15 → l ≤ most → 1 ≤ n → n ≤ 4096
-    → judged_of (fields_of 0 l n b) most ≡ Fits (l - 1)
+    → judged_of (fields_of 0 l n b) most ≡ Some (l - 1)
 unfolding judged_of down_of
 down_fits l n b most a c d e f = rw (le-leb 1 l a, le-leb l 15 c, le-leb 1 n e, le-leb n 4096 f, le-leb l most d)
 
 right_fits : (l n : ℕ) (b : List ℕ) (most : ℕ) → 1 ≤ l → l ≤ 15 → l ≤ most → n ≤ 4096
-    → judged_of (fields_of 1 l n b) most ≡ Fits l
+    → judged_of (fields_of 1 l n b) most ≡ Some l
 unfolding judged_of right_of
 right_fits l n b most a c d f = rw (ne_eqb l 0 (λ q. omega arith), le-leb l 15 c, le-leb n 4096 f, le-leb l most d)
 
-pass_fits : (c : Item) (most : ℕ) → Sent true c → judged_of (fields_of 1 0 c.own (shown c)) most ≡ Fits 0
+pass_fits : (c : Item) (most : ℕ) → Sent true c → judged_of (fields_of 1 0 c.own (shown c)) most ≡ Some 0
 unfolding judged_of pass_of
 pass_fits c most k = rw (sent_fits c k)
 
@@ -191,7 +191,7 @@ module _ (s : List ℕ) (c : Item) (r : Side) (kc : Sent true c) (kr : BesideFit
 
   -- one entry before what is read back
   before : (e : Entry Side) (p : List (Entry Side)) (i most next : ℕ) → entry_at s i ≡ e
-      → judged_of (fields_at s i) most ≡ Fits next
+      → judged_of (fields_at s i) most ≡ Some next
       → ReadBack s c r (suc i) p next → ReadBack s c r i (e ∷ p) most
   unfolding entries_fit entries_from
   before e p i most next is fits b = record {

@@ -12,9 +12,7 @@ use Rattle.skiplist.specs.Recompute.{field, fields, passed}
 use Rattle.skiplist.specs.Label.{sides}
 use Rattle.proofbytes.specs.declared.read.Fields.{Fields}
 use Rattle.proofbytes.specs.declared.read.Beside.{Beside}
-use Rattle.proofbytes.specs.declared.read.Judged.{Judged}
-use Rattle.proofbytes.specs.declared.read.Judged.TheVariants.{Unfit, Fits}
-use Rattle.proofbytes.specs.declared.read.Formed.TheVariants.{Broken, Sound}
+use Rattle.std.specs.Prelude.{None, Some}
 use Rattle.proofbytes.specs.Reading.{fields_at, beside_at, side_from, entry_at, entries_from}
 use Rattle.proofbytes.specs.Form.{ahead_of, judged_of, entries_fit, stop_fits, walk_fits, walked_of}
 use Rattle.proofbytes.proofs.ReadingLaws.{passed-entry, field-entry, entries_none, entries_down}
@@ -29,7 +27,6 @@ ahead_small e h = go (eqb e.kind 0)
 
 -- i of k entries are behind: the rest and the sums so far settle the whole
 pub record Walked (s : List ℕ) (k i most position rank : ℕ) : Type 0 where
-  pub reached : i ≤ k
   pub fit : entries_fit s i (k - i) most ≡ entries_fit s 0 k 15
   pub passes : position + passed (sides sha256) (entries_from s i (k - i)) ≡ passed (sides sha256) (entries_from s 0 k)
   pub adds : rank + fields (sides sha256) (entries_from s i (k - i)) ≡ fields (sides sha256) (entries_from s 0 k)
@@ -40,7 +37,6 @@ pub start : (s : List ℕ) (k : ℕ) → Walked s k 0 15 0 0
 start s k =
     let e : k - 0 ≡ k = omega arith in
     record {
-      reached = omega arith;
       fit = rw e;
       passes = rw e (omega arith);
       adds = rw e (omega arith);
@@ -52,13 +48,11 @@ module _ (s : List ℕ) (k i most position rank : ℕ) (w : Walked s k i most po
   one_more : i < k → k - i ≡ suc (k - (i + 1))
   one_more h = omega (arith, add-one (k - (i + 1)))
 
-  pub turn : (e : Fields) (next ahead : ℕ) {j : Judged} → i < k → e ≡ fields_at s i → e.number < 4294967296 → j
-      ≡ judged_of e most → j ≡ Fits next
-      → ahead ≡ ahead_of e → Walked s k (i + 1) next (position + ahead) (rank + e.number)
+  pub turn : (e : Fields) (next ahead : ℕ) → i < k → e ≡ fields_at s i → e.number < 4294967296
+      → Some next ≡ judged_of e most → ahead ≡ ahead_of e → Walked s k (i + 1) next (position + ahead) (rank + e.number)
   unfolding entries_fit
-  turn e next ahead h ee b ej ef ea = record {
-    reached = omega arith;
-    fit = sym (rw (one_more h, ← ee, sym ej ∙ ef, add-one i)) ∙ w.fit;
+  turn e next ahead h ee b ej ea = record {
+    fit = sym (rw (one_more h, ← ee, sym ej, add-one i)) ∙ w.fit;
     passes = omega (arith, steps, w.passes, ahead_is);
     adds = omega (arith, sums, w.adds);
     near = omega (arith, w.near, ea, ahead_small e b);
@@ -81,18 +75,14 @@ module _ (s : List ℕ) (k i most position rank : ℕ) (w : Walked s k i most po
       sums = ap (fields (sides sha256)) (entries_down s i k h)
           ∙ ap (λ n. n + fields (sides sha256) (entries_from s (i + 1) (k - (i + 1)))) number
 
-  pub broke : (e : Fields) {j : Judged} → i < k → e ≡ fields_at s i → j ≡ judged_of e most → j ≡ Unfit → Broken
-      ≡ walked_of s k
+  pub broke : (e : Fields) → i < k → e ≡ fields_at s i → None ≡ judged_of e most → None ≡ walked_of s k
   unfolding walked_of walk_fits entries_fit
-  broke e h ee ej ef =
-      let z : entries_fit s i (k - i) most ≡ false = rw (one_more h, ← ee, sym ej ∙ ef) in
+  broke e h ee ej =
+      let z : entries_fit s i (k - i) most ≡ false = rw (one_more h, ← ee, sym ej) in
       sym (rw (sym w.fit ∙ z))
 
-  module _ (e : Fields) (b : Beside) (over : k ≤ i) (ee : e ≡ fields_at s k) (eb : b ≡ beside_at s k) {x : Bool}
+  module _ (e : Fields) (b : Beside) (at_end : i ≡ k) (ee : e ≡ fields_at s k) (eb : b ≡ beside_at s k) {x : Bool}
       (ex : x ≡ stop_fits e b) where
-    at_end : i ≡ k
-    at_end = omega (arith, w.reached)
-
     none_left : k - i ≡ 0
     none_left = omega (arith, at_end)
 
@@ -106,10 +96,10 @@ module _ (s : List ℕ) (k i most position rank : ℕ) (w : Walked s k i most po
     rank_is : fields (sides sha256) (entries_from s 0 k) ≡ rank
     rank_is = omega (arith, w.adds, ap (fields (sides sha256)) (entries_none s i (k - i) none_left))
 
-    pub ended : x ≡ true → Sound (position + e.number) (rank + (e.number + b.rank)) ≡ walked_of s k
+    pub ended : x ≡ true → Some (record { position = position + e.number; rank = rank + (e.number + b.rank) }) ≡ walked_of s k
     unfolding walked_of walk_fits side_from
     ended t = sym (rw (all_fit, ← ee, ← eb, ← ex, t, position_is, rank_is))
 
-    pub ended_broken : x ≡ false → Broken ≡ walked_of s k
+    pub ended_broken : x ≡ false → None ≡ walked_of s k
     unfolding walked_of walk_fits
     ended_broken t = sym (rw (all_fit, ← ee, ← eb, ← ex, t))

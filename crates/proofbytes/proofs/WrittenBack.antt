@@ -22,10 +22,9 @@ use Rattle.skiplist.specs.Check.{WellFormed}
 use Rattle.skiplist.specs.Limits.{most_height}
 use Rattle.skiplist.specs.Label.{Side}
 use Rattle.skiplist.specs.Blocks.{Sent, item_of, shown}
-use Rattle.skiplist.proofs.Cases.{both}
+use Rattle.skiplist.proofs.Cases.{both, never}
 use Rattle.proofbytes.specs.declared.read.Beside.{Beside}
-use Rattle.proofbytes.specs.declared.read.Judged.{Judged}
-use Rattle.proofbytes.specs.declared.read.Judged.TheVariants.{Unfit, Fits}
+use Rattle.std.specs.Prelude.{Option, None, Some}
 use Rattle.proofbytes.specs.Writing.{header_bytes, field_bytes, entry_bytes, entries_bytes, label_field, stop_fields}
 use Rattle.proofbytes.specs.Writing.{stop_bytes, proof_bytes}
 use Rattle.proofbytes.specs.Reading.{at, fields_at, beside_at, side_from, entry_at, entries_from, count_of, Sized}
@@ -108,10 +107,10 @@ fitting_next : (s : List ℕ) (i n most : ℕ) → entries_fit s i (suc n) most 
 unfolding entries_fit
 fitting_next s i n most e = go (judged_of (fields_at s i) most) refl e
   where
-    go : (x : Judged) → judged_of (fields_at s i) most ≡ x → fitting x (λ next. entries_fit s (suc i) n next) ≡ true
+    go : (x : Option ℕ) → judged_of (fields_at s i) most ≡ x → fitting x (λ next. entries_fit s (suc i) n next) ≡ true
         → (next : ℕ) × Fitting (fields_at s i) most next × (entries_fit s (suc i) n next ≡ true)
-    go Unfit j f = let z : ◌≡◌ {A = ℕ} 0 1 = cc in absurd (omega arith)
-    go (Fits next) j f = (next, fitting_cases (fields_at s i) most next j, f)
+    go None j f = never cc
+    go (Some next) j f = (next, fitting_cases (fields_at s i) most next j, f)
 
 ruled : (s : List ℕ) (n i most : ℕ) → at (i + n) ≤ length s → entries_fit s i n most ≡ true → Ruled s i n most
 unfolding entries_from

@@ -1,7 +1,7 @@
 -- The rules of document 01's proof section: the bytes that keep them all are well formed, and others are refused with
 -- 7. They speak of bytes alone.
 -- Assumes nothing.
-use Rattle.std.specs.Prelude.{ℕ, zero, suc, ◌+◌, ◌-◌, ◌*◌, ◌%◌, ◌≤◌, ◌≡◌, ◌⊎◌, Bool, true, false, cond, ◌&&◌, List, [], ◌∷◌, leb, eqb, length, get_or}
+use Rattle.std.specs.Prelude.{ℕ, zero, suc, ◌+◌, ◌-◌, ◌*◌, ◌%◌, ◌≤◌, ◌≡◌, ◌⊎◌, Bool, true, false, cond, ◌&&◌, List, [], ◌∷◌, leb, eqb, length, get_or, Option, None, Some}
 use Rattle.octets.specs.Numbers.{number_at}
 use Rattle.octets.specs.Runs.{all_zero}
 use Rattle.sha256.specs.Hash.{sha256}
@@ -15,48 +15,45 @@ use Rattle.proofbytes.specs.Layout.{most_entries, down_kind, right_kind, stop_ki
 use Rattle.proofbytes.specs.Reading.{fields_at, beside_at, count_of, place_at, place_of}
 use Rattle.proofbytes.specs.declared.read.Fields.{Fields}
 use Rattle.proofbytes.specs.declared.read.Beside.{Beside}
-use Rattle.proofbytes.specs.declared.read.Judged.{Judged}
-use Rattle.proofbytes.specs.declared.read.Judged.TheVariants.{Unfit, Fits}
-use Rattle.proofbytes.specs.declared.read.Formed.{Formed}
-use Rattle.proofbytes.specs.declared.read.Formed.TheVariants.{Broken, Sound}
+use Rattle.proofbytes.specs.declared.read.Proven.{Proven}
 
 abbrev pub within : ℕ → ℕ → ℕ → Bool
 within low high x = leb low x && leb x high
 
--- ONE ENTRY, of a level that is to be at most `most`: unfit, or the greatest level that may follow. "Every rank field
+-- ONE ENTRY, of a level that is to be at most `most`: none, or the greatest level that may follow. "Every rank field
 -- is at most 4,096." "Kind 0, down, level 1 to 15: rank (at least 1)"; "After a down entry the next level is lower"
-unfoldable pub down_of : ℕ → ℕ → ℕ → Judged
-down_of level rank most = cond (within 1 most_blocks rank && leb level most) (Fits (level - 1)) Unfit
+unfoldable pub down_of : ℕ → ℕ → ℕ → Option ℕ
+down_of level rank most = cond (within 1 most_blocks rank && leb level most) (Some (level - 1)) None
 
 -- "Kind 1, right, level 1 to 15: rank (0 allowed)"; "after a right entry it is no higher"
-unfoldable pub right_of : ℕ → ℕ → ℕ → Judged
-right_of level rank most = cond (leb rank most_blocks && leb level most) (Fits level) Unfit
+unfoldable pub right_of : ℕ → ℕ → ℕ → Option ℕ
+right_of level rank most = cond (leb rank most_blocks && leb level most) (Some level) None
 
 -- "own 0 or 1, and the tag field all zero if own is 0"
 unfoldable pub leaf_fits : ℕ → List ℕ → Bool
 leaf_fits own tag = cond (eqb own 0) (all_zero tag) (eqb own 1)
 
 -- "Kind 1, level 0: own and tag of the leaf passed"
-unfoldable pub pass_of : ℕ → List ℕ → Judged
-pass_of own tag = cond (leaf_fits own tag) (Fits 0) Unfit
+unfoldable pub pass_of : ℕ → List ℕ → Option ℕ
+pass_of own tag = cond (leaf_fits own tag) (Some 0) None
 
 -- "Each entry is read by its kind and level"
-unfoldable pub judged_of : Fields → ℕ → Judged
+unfoldable pub judged_of : Fields → ℕ → Option ℕ
 judged_of e most =
-    cond (eqb e.kind down_kind) (cond (within 1 most_height e.level) (down_of e.level e.number most) Unfit)
+    cond (eqb e.kind down_kind) (cond (within 1 most_height e.level) (down_of e.level e.number most) None)
     (cond (eqb e.kind right_kind)
     (cond (eqb e.level 0) (pass_of e.number e.bytes)
-    (cond (leb e.level most_height) (right_of e.level e.number most) Unfit))
-    Unfit)
+    (cond (leb e.level most_height) (right_of e.level e.number most) None))
+    None)
 
 -- what an entry adds to the proved position
 unfoldable pub ahead_of : Fields → ℕ
 ahead_of e = cond (eqb e.kind down_kind) 0 e.number
 
 -- n entries from the i-th on, the first of a level that is at most `most`
-abbrev pub fitting : Judged → (ℕ → Bool) → Bool
-fitting Unfit f = false
-fitting (Fits next) f = f next
+abbrev pub fitting : Option ℕ → (ℕ → Bool) → Bool
+fitting None f = false
+fitting (Some next) f = f next
 
 unfoldable pub entries_fit : List ℕ → ℕ → ℕ → ℕ → Bool
 entries_fit s i zero most = true
@@ -88,15 +85,14 @@ unfoldable pub well_formed : List ℕ → Bool
 well_formed s = header_fits s && walk_fits s (count_of s)
 
 -- what the walk answers: the proved position and the proved rank of well formed bytes
-unfoldable pub walked_of : List ℕ → ℕ → Formed
-walked_of s k =
-    cond (walk_fits s k) (Sound (proved_position (sides sha256) (place_at s k))
-    (proved_rank (sides sha256) (place_at s k))) Broken
+abbrev pub proven_by : Place Side → Proven
+proven_by z = record { position = proved_position (sides sha256) z; rank = proved_rank (sides sha256) z }
 
-unfoldable pub formed_of : List ℕ → Formed
-formed_of s =
-    cond (well_formed s) (Sound (proved_position (sides sha256) (place_of s)) (proved_rank (sides sha256) (place_of s)))
-    Broken
+unfoldable pub walked_of : List ℕ → ℕ → Option Proven
+walked_of s k = cond (walk_fits s k) (Some (proven_by (place_at s k))) None
+
+unfoldable pub formed_of : List ℕ → Option Proven
+formed_of s = cond (well_formed s) (Some (proven_by (place_of s))) None
 
 -- THE SAME RULES ON A PATH that is to be written: of each entry,
 abbrev pub EntryFits : Entry Side → Type 0

@@ -17,7 +17,7 @@ pub const STOP: usize = 74;
 
 pub const LEAST_PROOF: usize = 77;
 
-// The kinds.
+// The kinds, as bytes and no enum: an entry is read from any bytes before it is judged.
 pub const DOWN: u8 = 0;
 
 pub const RIGHT: u8 = 1;

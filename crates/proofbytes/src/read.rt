@@ -23,6 +23,7 @@ const RIGHT_RANK_PLACE: usize = 38;
 
 const RIGHT_LABEL_PLACE: usize = 42;
 
+// The most that a rank and a level can be in a good proof.
 const MOST_RANK: u64 = 4096;
 
 const MOST_LEVEL: u8 = 15;
@@ -44,58 +45,47 @@ pub struct Beside {
     pub label: [u8; 32],
 }
 
-// An entry's refusal, or the greatest level that the next one may have.
-#[derive(Clone, Copy)]
-pub enum Judged {
-    Unfit,
-    Fits(u8),
-}
-
-// The whole form: refusal 7, or the proved position and the proved rank.
-#[derive(Clone, Copy)]
-pub enum Formed {
-    Broken,
-    Sound { position: u64, rank: u64 },
+// What a proof of good form proves: a position and a rank.
+#[derive(Clone, Copy, Debug, PartialEq, Eq)]
+pub struct Proven {
+    pub position: u64,
+    pub rank: u64,
 }
 
 // How many entries bytes of this length have room for, beside header and stop.
 pub fn entry_count(s: &[u8]) -> usize
     ensures { result ≡ count_of s.now }
 {
-    let n = s.len();
-    if n < HEADER + STOP {
-        return 0;
-    }
-    (n - (HEADER + STOP)) / ENTRY
+    s.len().saturating_sub(HEADER + STOP) / ENTRY
 }
 
 // The entry with i entries before it; after the last entry, the stop's first fields.
+// Bytes and a place, not a type of good proofs: an entry is read before the form is judged.
+#[tactic(auto, unfolding(crate::specs::Reading::fields_at))]
 pub fn entry_at(s: &[u8], i: usize) -> Fields
     requires { at i + entry_size ≤ length s.now }
     ensures { (result ≡ fields_at s.now i) × (result.number < rank_bound) }
 {
     let from = HEADER + ENTRY * i;
-    let kind = s[from];
-    let level = s[from + LEVEL_PLACE];
-    let number = octets::four_at(s, from + NUMBER_PLACE);
-    let bytes = octets::bytes32(s, from + BYTES_PLACE);
     Fields {
-        kind,
-        level,
-        number,
-        bytes,
+        kind: s[from],
+        level: s[from + LEVEL_PLACE],
+        number: octets::number_at::<4>(s, from + NUMBER_PLACE),
+        bytes: octets::bytes_at(s, from + BYTES_PLACE),
     }
 }
 
 // The right side in a stop that k entries come before.
+#[tactic(auto, unfolding(crate::specs::Reading::beside_at))]
 pub fn beside_at(s: &[u8], k: usize) -> Beside
     requires { at k + stop_size ≤ length s.now }
     ensures { (result ≡ beside_at s.now k) × (result.rank < rank_bound) }
 {
     let from = HEADER + ENTRY * k;
-    let rank = octets::four_at(s, from + RIGHT_RANK_PLACE);
-    let label = octets::bytes32(s, from + RIGHT_LABEL_PLACE);
-    Beside { rank, label }
+    Beside {
+        rank: octets::number_at::<4>(s, from + RIGHT_RANK_PLACE),
+        label: octets::bytes_at(s, from + RIGHT_LABEL_PLACE),
+    }
 }
 
 // Are the i-th entries of two proofs equal, byte for byte?
@@ -104,80 +94,71 @@ pub fn same_entry(a: &[u8], b: &[u8], i: usize) -> bool
     ensures { result ≡ same (part a.now (at i) entry_size) (part b.now (at i) entry_size) }
 {
     let from = HEADER + ENTRY * i;
-    octets::same_bytes(&a[from..from + ENTRY], &b[from..from + ENTRY])
+    a[from..from + ENTRY] == b[from..from + ENTRY]
 }
 
+// The rules on one entry answer the greatest level that the next one may have, or nothing where it is refused. One
+// function for each rule of document 01.
+
 // A down entry of level 1 to 15: a rank of at least 1, and the next level is lower.
-fn down(level: u8, rank: u64, most: u8) -> Judged
+#[tactic(auto, unfolding(crate::specs::Form::down_of))]
+fn down(level: u8, rank: u64, most: u8) -> Option<u8>
     requires { 1 ≤ level }
     ensures { result ≡ down_of level rank most }
 {
     match rank {
-        1..=MOST_RANK => {
-            if level <= most {
-                Judged::Fits(level - 1)
-            } else {
-                Judged::Unfit
-            }
-        }
-        _ => Judged::Unfit,
+        1..=MOST_RANK if level <= most => Some(level - 1),
+        _ => None,
     }
 }
 
 // A right entry of level 1 to 15: the next level is no higher.
-fn right(level: u8, rank: u64, most: u8) -> Judged
+#[tactic(auto, unfolding(crate::specs::Form::right_of))]
+fn right(level: u8, rank: u64, most: u8) -> Option<u8>
     ensures { result ≡ right_of level rank most }
 {
     match rank {
-        0..=MOST_RANK => {
-            if level <= most {
-                Judged::Fits(level)
-            } else {
-                Judged::Unfit
-            }
-        }
-        _ => Judged::Unfit,
+        0..=MOST_RANK if level <= most => Some(level),
+        _ => None,
     }
 }
 
 // A leaf's own and tag field: own 0 or 1, and the tag field all zero if own is 0.
+// own is a number: it is added to the rank, and the bytes may hold any.
+#[tactic(auto, unfolding(crate::specs::Form::leaf_fits))]
 fn leaf_fits(own: u64, tag: [u8; 32]) -> bool
     ensures { result ≡ leaf_fits own tag }
 {
     if own == 0 {
-        return octets::all_zero(&tag);
+        octets::zeros(&tag)
+    } else {
+        own == 1
     }
-    own == 1
 }
 
-fn pass(own: u64, tag: [u8; 32]) -> Judged
+#[tactic(auto, unfolding(crate::specs::Form::pass_of))]
+fn pass(own: u64, tag: [u8; 32]) -> Option<u8>
     ensures { result ≡ pass_of own tag }
 {
-    if leaf_fits(own, tag) {
-        Judged::Fits(0)
-    } else {
-        Judged::Unfit
-    }
+    if leaf_fits(own, tag) { Some(0) } else { None }
 }
 
 // "Each entry is read by its kind and level"; its level is to be at most `most`.
-fn judge(e: Fields, most: u8) -> Judged
+#[tactic(auto, unfolding(crate::specs::Form::judged_of))]
+fn judge(e: Fields, most: u8) -> Option<u8>
     ensures { result ≡ judged_of e most }
 {
-    let kind = e.kind;
-    let level = e.level;
-    let bytes = e.bytes;
-    match kind {
-        DOWN => match level {
-            1..=MOST_LEVEL => down(level, e.number, most),
-            _ => Judged::Unfit,
+    match e.kind {
+        DOWN => match e.level {
+            1..=MOST_LEVEL => down(e.level, e.number, most),
+            _ => None,
         },
-        RIGHT => match level {
-            0 => pass(e.number, bytes),
-            1..=MOST_LEVEL => right(level, e.number, most),
-            _ => Judged::Unfit,
+        RIGHT => match e.level {
+            0 => pass(e.number, e.bytes),
+            1..=MOST_LEVEL => right(e.level, e.number, most),
+            _ => None,
         },
-        _ => Judged::Unfit,
+        _ => None,
     }
 }
 
@@ -190,93 +171,76 @@ fn ahead(e: Fields) -> u64
 }
 
 // The stop's right side: the label all zero if the rank is 0.
+#[tactic(auto, unfolding(crate::specs::Form::beside_fits))]
 fn beside_fits(rank: u64, label: [u8; 32]) -> bool
     ensures { result ≡ beside_fits rank label }
 {
     if rank == 0 {
-        return octets::all_zero(&label);
+        octets::zeros(&label)
+    } else {
+        rank <= MOST_RANK
     }
-    rank <= MOST_RANK
 }
 
+#[tactic(auto, unfolding(crate::specs::Form::stop_fits))]
 fn stop_fits(e: Fields, b: Beside) -> bool
     ensures { result ≡ stop_fits e b }
 {
-    if e.kind != STOP_KIND {
-        return false;
-    }
-    if e.level != 0 {
-        return false;
-    }
-    let tag = e.bytes;
-    if !leaf_fits(e.number, tag) {
-        return false;
-    }
-    let label = b.label;
-    beside_fits(b.rank, label)
+    e.kind == STOP_KIND
+        && e.level == 0
+        && leaf_fits(e.number, e.bytes)
+        && beside_fits(b.rank, b.label)
 }
 
 // Exactly 77 + 38k bytes for some k from 0 to 200, version 1, and that length stated.
+#[tactic(auto, unfolding(crate::specs::Form::header_fits))]
 fn header_fits(s: &[u8]) -> bool
     ensures { result ≡ header_fits s.now }
 {
     let n = s.len();
-    if n < HEADER + STOP {
-        return false;
-    }
-    if HEADER + ENTRY * MOST_ENTRIES + STOP < n {
-        return false;
-    }
-    if (n - (HEADER + STOP)) % ENTRY != 0 {
-        return false;
-    }
-    if s[0] != VERSION {
-        return false;
-    }
-    octets::two_at(s, LENGTH_PLACE) == (n - HEADER) as u64
+    HEADER + STOP <= n
+        && n <= HEADER + ENTRY * MOST_ENTRIES + STOP
+        && (n - (HEADER + STOP)) % ENTRY == 0
+        && s[0] == VERSION
+        && octets::number_at::<2>(s, LENGTH_PLACE) == (n - HEADER) as u64
 }
 
 // The entries from the root and the stop, where there are bytes for k entries and a stop.
-fn walk(s: &[u8], k: usize) -> Formed
+// k counts the entries; it is worked out once and handed down.
+#[tactic(auto, using(crate::proofs::Walks::start, crate::proofs::Walks::ahead_small))]
+fn walk(s: &[u8], k: usize) -> Option<Proven>
     requires { (k ≤ most_entries) × (at k + stop_size ≤ length s.now) }
     ensures { result ≡ walked_of s.now k }
 {
-    let mut i = 0;
-    let mut most: u8 = MOST_LEVEL;
-    let mut position: u64 = 0;
-    let mut rank: u64 = 0;
-    while i < k {
+    let mut most = MOST_LEVEL;
+    let mut position = 0;
+    let mut rank = 0;
+    for i in 0..k {
         let e = entry_at(s, i);
-        let j = judge(e, most);
-        match j {
-            Judged::Unfit => return Formed::Broken,
-            Judged::Fits(next) => {
-                most = next;
-                position += ahead(e);
-                rank += e.number;
-            }
-        }
-        i += 1;
+        most = judge(e, most)?;
+        position += ahead(e);
+        rank += e.number;
     }
     let e = entry_at(s, k);
     let b = beside_at(s, k);
     if stop_fits(e, b) {
-        Formed::Sound {
+        Some(Proven {
             position: position + e.number,
             rank: rank + (e.number + b.rank),
-        }
+        })
     } else {
-        Formed::Broken
+        None
     }
 }
 
-// The form of any bytes: refusal 7, or the proved position and rank.
-pub fn form(s: &[u8]) -> Formed
+// The form of any bytes: what they prove, or nothing, for refusal 7.
+#[tactic(auto, using(crate::proofs::FormLaws::form_few, crate::proofs::FormLaws::form_long), unfolding(crate::specs::Form::formed_of, crate::specs::Form::well_formed, crate::specs::Form::walked_of))]
+pub fn form(s: &[u8]) -> Option<Proven>
     ensures { result ≡ formed_of s.now }
 {
     if header_fits(s) {
         walk(s, entry_count(s))
     } else {
-        Formed::Broken
+        None
     }
 }

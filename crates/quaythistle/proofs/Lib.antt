@@ -1,3 +1,2 @@
-mod Calls
 mod Strange
 mod Unique

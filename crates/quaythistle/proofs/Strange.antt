@@ -1,6 +1,7 @@
 -- An operation number over 3 names no command, so no position is in its range: each call that takes a command refuses it with 2, but for
 -- what comes before 2 in the call's order.
 -- Assumes nothing.
+use Rattle.std.specs.Prelude.{Err}
 use Prim.Native.Nat.{ℕ, ◌<◌, ◌≤◌}
 use mathlib.Core.Path.{◌≡◌}
 use mathlib.Core.Bool.{false, true, cond, not, ◌||◌}
@@ -8,7 +9,6 @@ use mathlib.Core.List.{List}
 use lib.Dec.{eqb, ltb}
 use native.Mathlib.Omega.{arith}
 use borrow.Author.Tests.{lt-ltb, ne_eqb}
-use Rattle.refusals.specs.declared.Verdict.TheVariants.{Refused}
 use Rattle.refusals.specs.declared.Refusal.TheVariants.{BadImage, BadPosition, BadMetadata}
 use Rattle.skiplist.specs.Limits.{most_blocks}
 use Rattle.archive.specs.Reading.{sound}
@@ -38,12 +38,12 @@ outside k n over =
 
 pub strange_applied
     : (b : List ℕ) (k : QtCommand) → delete_number < k.operation
-    → (apply_of b (command_of k)).verdict ≡ cond (not (sound b)) (Refused BadImage) (Refused BadPosition)
+    → (apply_of b (command_of k)).verdict ≡ cond (not (sound b)) (Err BadImage) (Err BadPosition)
 unfolding apply_of apply_verdict
 strange_applied b k over = rw (outside k _ over)
 
 pub strange_checked
     : (m : Metadata) (k : QtCommand) (first second : List ℕ) → delete_number < k.operation
-    → (gateway_of m (command_of k) first second).verdict ≡ cond (ltb most_blocks m.count) (Refused BadMetadata) (Refused BadPosition)
+    → (gateway_of m (command_of k) first second).verdict ≡ cond (ltb most_blocks m.count) (Err BadMetadata) (Err BadPosition)
 unfolding gateway_of
 strange_checked m k first second over = rw (outside k m.count over)

@@ -1,8 +1,7 @@
 -- What C passes and gets, and what it means: verdicts as document 01's numbers, digests in a struct, an operation as a number.
 -- Assumes nothing.
-use Rattle.std.specs.Prelude.{ℕ, cond, List, eqb, ltb}
-use Rattle.refusals.specs.declared.Verdict.{Verdict}
-use Rattle.refusals.specs.declared.Verdict.TheVariants.{Done, Refused}
+use Rattle.refusals.specs.Order.{Verdict}
+use Rattle.std.specs.Prelude.{ℕ, cond, List, eqb, ltb, Ok, Err}
 use Rattle.refusals.specs.Numbers.{verdict_number, proof_of}
 use Rattle.commands.specs.declared.Metadata.{Metadata}
 use Rattle.commands.specs.declared.Operation.{Operation}
@@ -17,8 +16,8 @@ use Rattle.quaythistle.specs.declared.plain.QtFiling.{QtFiling}
 
 -- "7, 8 and 9 also say which proof": 1 the first, 2 the second, 0 none; of a joint proof "with its place"
 abbrev pub verdict_proof : Verdict → ℕ
-verdict_proof Done = 0
-verdict_proof (Refused r) = proof_of r
+verdict_proof (Ok tt) = 0
+verdict_proof (Err r) = proof_of r
 
 abbrev pub plain_verdict : Verdict → QtVerdict
 plain_verdict v = record { refusal = verdict_number v; proof = verdict_proof v }

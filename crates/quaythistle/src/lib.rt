@@ -8,8 +8,10 @@ ghost use Rattle.quaythistle.specs.Pledges.{Files, Places, ProvesJointly, Answer
 
 use crate::plain::{QtCommand, QtDigest, QtFiling, QtMetadata, QtVerdict};
 
+mod answers;
 mod plain;
 
+// C has no Result: each answer has its verdict beside its values, and says how much was written.
 #[repr(C)]
 #[derive(Clone, Copy)]
 pub struct QtDigested {
@@ -76,25 +78,15 @@ pub struct QtJointAnswer {
 pub extern "C" fn qt_sha256_digest(message: &[u8]) -> QtDigested
     ensures { Digests message.now result }
 {
-    let d = sha256::digest(message);
-    let v = d.verdict;
-    let bytes = d.bytes;
-    let verdict = plain::verdict(v);
-    let digest = QtDigest { bytes };
-    QtDigested { verdict, digest }
+    sha256::digest(message).into()
 }
 
 // SHA-256 of a message in two parts.
 #[unsafe(no_mangle)]
-pub extern "C" fn qt_sha256_digest_joined<'a>(first: &'a [u8], second: &'a [u8]) -> QtDigested
+pub extern "C" fn qt_sha256_digest_joined(first: &[u8], second: &[u8]) -> QtDigested
     ensures { Digests (first.now ++ second.now) result }
 {
-    let d = sha256::digest_joined(first, second);
-    let v = d.verdict;
-    let bytes = d.bytes;
-    let verdict = plain::verdict(v);
-    let digest = QtDigest { bytes };
-    QtDigested { verdict, digest }
+    sha256::digest_joined(first, second).into()
 }
 
 // A block's tag.
@@ -102,12 +94,7 @@ pub extern "C" fn qt_sha256_digest_joined<'a>(first: &'a [u8], second: &'a [u8])
 pub extern "C" fn qt_labels_tag(time: u32, readings: &[u8]) -> QtDigested
     ensures { Tags time readings.now result }
 {
-    let t = labels::tag(time, readings);
-    let v = t.verdict;
-    let bytes = t.tag;
-    let verdict = plain::verdict(v);
-    let digest = QtDigest { bytes };
-    QtDigested { verdict, digest }
+    labels::tag(time, readings).into()
 }
 
 // Whether a tag is that of a block.
@@ -115,14 +102,7 @@ pub extern "C" fn qt_labels_tag(time: u32, readings: &[u8]) -> QtDigested
 pub extern "C" fn qt_labels_matches(tag: QtDigest, time: u32, readings: &[u8]) -> QtMatched
     ensures { Matches tag time readings.now result }
 {
-    let bytes = tag.bytes;
-    let m = labels::matches(bytes, time, readings);
-    let v = m.verdict;
-    let verdict = plain::verdict(v);
-    QtMatched {
-        verdict,
-        yes: m.yes,
-    }
+    labels::matches(tag.bytes, time, readings).into()
 }
 
 // The height drawn from a coin word.
@@ -138,12 +118,7 @@ pub extern "C" fn qt_labels_height(word: u16) -> u8
 pub extern "C" fn qt_store_check(image: &[u8]) -> QtMetadataAnswer
     ensures { Checks image.now result }
 {
-    let c = store::check(image);
-    let v = c.verdict;
-    let m = c.metadata;
-    let verdict = plain::verdict(v);
-    let metadata = plain::shown(m);
-    QtMetadataAnswer { verdict, metadata }
+    store::check(image).into()
 }
 
 // The proof of a position, from a place of the buffer on.
@@ -156,14 +131,7 @@ pub extern "C" fn qt_store_prove(
 ) -> QtProved
     ensures { Proves image.now position buffer.old place result buffer.new }
 {
-    let p = store::prove(image, position, buffer, place);
-    let v = p.verdict;
-    let verdict = plain::verdict(v);
-    QtProved {
-        verdict,
-        length: p.length,
-        entries: p.entries,
-    }
+    store::prove(image, position, buffer, place).into()
 }
 
 // A command made on the image in its buffer.
@@ -171,14 +139,7 @@ pub extern "C" fn qt_store_prove(
 pub extern "C" fn qt_store_apply(image: &mut [u8], command: QtCommand) -> QtCounted
     ensures { Applies image.old command result image.new }
 {
-    let k = plain::command(command);
-    let a = store::apply(image, k);
-    let v = a.verdict;
-    let verdict = plain::verdict(v);
-    QtCounted {
-        verdict,
-        count: a.count,
-    }
+    store::apply(image, command.into()).into()
 }
 
 // For each block the number of entries in the path to it.
@@ -186,13 +147,7 @@ pub extern "C" fn qt_store_apply(image: &mut [u8], command: QtCommand) -> QtCoun
 pub extern "C" fn qt_shapes_shape(image: &[u8], entries: &mut [u64]) -> QtCounted
     ensures { Shapes image.now entries.old result entries.new }
 {
-    let s = shapes::shape(image, entries);
-    let v = s.verdict;
-    let verdict = plain::verdict(v);
-    QtCounted {
-        verdict,
-        count: s.blocks,
-    }
+    shapes::shape(image, entries).into()
 }
 
 // Metadata as 39 bytes.
@@ -200,12 +155,7 @@ pub extern "C" fn qt_shapes_shape(image: &[u8], entries: &mut [u64]) -> QtCounte
 pub extern "C" fn qt_gateway_save(metadata: QtMetadata) -> QtSaved
     ensures { Saves metadata result }
 {
-    let m = plain::held(metadata);
-    let s = gateway::saved::save(m);
-    let v = s.verdict;
-    let bytes = s.bytes;
-    let verdict = plain::verdict(v);
-    QtSaved { verdict, bytes }
+    gateway::saved::save(metadata.into()).into()
 }
 
 // Metadata from 39 bytes.
@@ -213,12 +163,7 @@ pub extern "C" fn qt_gateway_save(metadata: QtMetadata) -> QtSaved
 pub extern "C" fn qt_gateway_load(saved: &[u8]) -> QtMetadataAnswer
     ensures { Loads saved.now result }
 {
-    let l = gateway::saved::load(saved);
-    let v = l.verdict;
-    let m = l.metadata;
-    let verdict = plain::verdict(v);
-    let metadata = plain::shown(m);
-    QtMetadataAnswer { verdict, metadata }
+    gateway::saved::load(saved).into()
 }
 
 // The gateway's check of a command with its proofs.
@@ -231,19 +176,7 @@ pub extern "C" fn qt_gateway_check(
 ) -> QtAnswer
     ensures { Answers metadata command first.now second.now result }
 {
-    let k = plain::command(command);
-    let a = gateway::check(plain::held(metadata), k, first, second);
-    let v = a.verdict;
-    let m = a.metadata;
-    let bytes = a.tag;
-    let verdict = plain::verdict(v);
-    let tag = QtDigest { bytes };
-    let metadata = plain::shown(m);
-    QtAnswer {
-        verdict,
-        tag,
-        metadata,
-    }
+    gateway::check(metadata.into(), command.into(), first, second).into()
 }
 
 // A block filed by its time: the new one's readings, those of the blocks at the place and after it, and the two proofs.
@@ -260,27 +193,16 @@ pub extern "C" fn qt_filer_file(
     ensures { Files metadata filing readings.now left.now right.now first.now
         second.now result }
 {
-    let f = plain::filing(filing);
-    let filed = filer::file(
-        plain::held(metadata),
-        f,
+    filer::file(
+        metadata.into(),
+        filing.into(),
         readings,
         left,
         right,
         first,
         second,
-    );
-    let v = filed.verdict;
-    let m = filed.metadata;
-    let bytes = filed.tag;
-    let verdict = plain::verdict(v);
-    let tag = QtDigest { bytes };
-    let metadata = plain::shown(m);
-    QtAnswer {
-        verdict,
-        tag,
-        metadata,
-    }
+    )
+    .into()
 }
 
 // The place for a time, from an archive's times.
@@ -301,14 +223,7 @@ pub extern "C" fn qt_jointstore_prove(
 ) -> QtProved
     ensures { ProvesJointly image.now positions.now buffer.old place result buffer.new }
 {
-    let p = jointstore::prove(image, positions, buffer, place);
-    let v = p.verdict;
-    let verdict = plain::verdict(v);
-    QtProved {
-        verdict,
-        length: p.length,
-        entries: p.entries,
-    }
+    jointstore::prove(image, positions, buffer, place).into()
 }
 
 // The gateway's check of a joint proof.
@@ -320,16 +235,5 @@ pub extern "C" fn qt_jointgateway_check(
 ) -> QtJointAnswer
     ensures { AnswersJointly metadata positions.now proof.now result }
 {
-    let a = jointgateway::check(plain::held(metadata), positions, proof);
-    let v = a.verdict;
-    let m = a.metadata;
-    let tags = a.tags;
-    let verdict = plain::verdict(v);
-    let metadata = plain::shown(m);
-    QtJointAnswer {
-        verdict,
-        number: a.number,
-        tags,
-        metadata,
-    }
+    jointgateway::check(metadata.into(), positions, proof).into()
 }

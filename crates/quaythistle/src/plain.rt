@@ -1,8 +1,7 @@
 // What C passes and gets, as plain numbers and bytes, and what it means to the calls below. No struct has padding, but for the
-// ends of an answer to save and of one to matches.
+// ends of an answer to save and of one to matches. An array is named before it goes into a literal.
 ghost use Rattle.std.specs.Prelude.{◌≡◌};
-ghost use Rattle.quaythistle.specs.Plain.{verdict_proof, plain_verdict, held_metadata, shown_metadata, operation_of, height_of, position_of, command_of};
-ghost use Rattle.quaythistle.specs.Plain.{filing_of};
+ghost use Rattle.quaythistle.specs.Plain.{plain_verdict, held_metadata, shown_metadata, operation_of, height_of, position_of, command_of, filing_of};
 
 use commands::{Command, Metadata, Operation};
 use filer::Filing;
@@ -14,9 +13,6 @@ const REPLACE: u32 = 1;
 const INSERT: u32 = 2;
 
 const DELETE: u32 = 3;
-
-// The greatest height that a command of the calls below can hold; every height over 15 is refused alike.
-const GREATEST_HEIGHT: u8 = 255;
 
 // A digest, a tag or a label.
 #[repr(C)]
@@ -62,103 +58,102 @@ pub struct QtFiling {
     pub right_time: u32,
 }
 
-fn proof(v: Verdict) -> u8
-    ensures { result ≡ verdict_proof v }
-{
-    match v {
-        Verdict::Done => 0,
-        Verdict::Refused(r) => refusals::proof(r),
+impl From<Verdict> for QtVerdict {
+    ghost from_gives = { λ v r. r ≡ plain_verdict v };
+
+    // Apart, so that its two cases are not copied into every call.
+    #[inline(never)]
+    fn from(v: Verdict) -> QtVerdict {
+        match v {
+            Ok(()) => QtVerdict {
+                refusal: 0,
+                proof: 0,
+            },
+            Err(r) => QtVerdict {
+                refusal: u32::from(u8::from(r)),
+                proof: u32::from(refusals::proof(r)),
+            },
+        }
     }
 }
 
-#[inline(never)]
-pub fn verdict(v: Verdict) -> QtVerdict
-    ensures { result ≡ plain_verdict v }
-{
-    QtVerdict {
-        refusal: refusals::verdict_number(v) as u32,
-        proof: proof(v) as u32,
+impl From<QtMetadata> for Metadata {
+    ghost from_gives = { λ m r. r ≡ held_metadata m };
+
+    fn from(m: QtMetadata) -> Metadata {
+        let label = m.label.bytes;
+        Metadata {
+            count: m.count,
+            label,
+        }
     }
 }
 
-pub fn held(m: QtMetadata) -> Metadata
-    ensures { result ≡ held_metadata m }
-{
-    let l = m.label;
-    let label = l.bytes;
-    Metadata {
-        count: m.count,
-        label,
+impl From<Metadata> for QtMetadata {
+    ghost from_gives = { λ m r. r ≡ shown_metadata m };
+
+    fn from(m: Metadata) -> QtMetadata {
+        let bytes = m.label;
+        QtMetadata {
+            count: m.count,
+            label: QtDigest { bytes },
+        }
     }
 }
 
-pub fn shown(m: Metadata) -> QtMetadata
-    ensures { result ≡ shown_metadata m }
-{
-    let bytes = m.label;
-    let label = QtDigest { bytes };
-    QtMetadata {
-        count: m.count,
-        label,
-    }
-}
-
+// A number that names no operation is read as Read.
+#[tactic(auto, unfolding(crate::specs::Plain::operation_of))]
 fn operation(n: u32) -> Operation
     ensures { result ≡ operation_of n }
 {
-    if n == REPLACE {
-        return Operation::Replace;
+    match n {
+        REPLACE => Operation::Replace,
+        INSERT => Operation::Insert,
+        DELETE => Operation::Delete,
+        _ => Operation::Read,
     }
-    if n == INSERT {
-        return Operation::Insert;
-    }
-    if n == DELETE {
-        return Operation::Delete;
-    }
-    Operation::Read
 }
 
 // A number that names no operation is read as Read's at position 0, which is outside its range.
+#[tactic(auto, unfolding(crate::specs::Plain::position_of))]
 fn position(n: u32, p: u64) -> u64
     ensures { result ≡ position_of n p }
 {
-    if DELETE < n {
-        return 0;
-    }
-    p
+    if DELETE < n { 0 } else { p }
 }
 
+// Every height over 15 is refused alike, so one over 255 is read as 255.
+#[tactic(auto, unfolding(crate::specs::Plain::height_of))]
 fn height(h: u32) -> u8
     ensures { result ≡ height_of h }
 {
-    if (GREATEST_HEIGHT as u32) < h {
-        return GREATEST_HEIGHT;
-    }
-    h as u8
+    u8::try_from(h).unwrap_or(u8::MAX)
 }
 
-pub fn command(k: QtCommand) -> Command
-    ensures { result ≡ command_of k }
-{
-    let t = k.tag;
-    let tag = t.bytes;
-    let n = k.operation;
-    Command {
-        operation: operation(n),
-        position: position(n, k.position),
-        height: height(k.height),
-        tag,
+impl From<QtCommand> for Command {
+    ghost from_gives = { λ k r. r ≡ command_of k };
+
+    fn from(k: QtCommand) -> Command {
+        let tag = k.tag.bytes;
+        Command {
+            operation: operation(k.operation),
+            position: position(k.operation, k.position),
+            height: height(k.height),
+            tag,
+        }
     }
 }
 
-pub fn filing(f: QtFiling) -> Filing
-    ensures { result ≡ filing_of f }
-{
-    Filing {
-        position: f.position,
-        height: height(f.height),
-        time: f.time,
-        left: f.left_time,
-        right: f.right_time,
+impl From<QtFiling> for Filing {
+    ghost from_gives = { λ f r. r ≡ filing_of f };
+
+    fn from(f: QtFiling) -> Filing {
+        Filing {
+            position: f.position,
+            height: height(f.height),
+            time: f.time,
+            left: f.left_time,
+            right: f.right_time,
+        }
     }
 }

@@ -1,7 +1,8 @@
 -- Each refusal's number in document 01's table "What comes back when it will not", from 13 on in document 02's asks, and the proof that
 -- it speaks of: "7, 8 and 9 also say which proof, first or second"; of a joint proof "with its place".
 -- Assumes nothing.
-use Rattle.std.specs.Prelude.{ℕ}
+use Rattle.refusals.specs.Order.{Verdict}
+use Rattle.std.specs.Prelude.{ℕ, Ok, Err}
 use Rattle.refusals.specs.declared.Which.{Which}
 use Rattle.refusals.specs.declared.Which.TheVariants.{First, Second, Place}
 use Rattle.refusals.specs.declared.Refusal.{Refusal}
@@ -9,8 +10,6 @@ use Rattle.refusals.specs.declared.Refusal.TheVariants.{BadImage, BadPosition, B
 use Rattle.refusals.specs.declared.Refusal.TheVariants.{BadProof, WrongPosition, WrongLabel, NotNeighbours}
 use Rattle.refusals.specs.declared.Refusal.TheVariants.{LongMessage, BadMetadata, BadSet, Repeated, OutOfTime}
 use Rattle.refusals.specs.declared.Refusal.TheVariants.{WrongBlock}
-use Rattle.refusals.specs.declared.Verdict.{Verdict}
-use Rattle.refusals.specs.declared.Verdict.TheVariants.{Done, Refused}
 
 abbrev pub number_of : Refusal → ℕ
 number_of BadImage = 1
@@ -32,8 +31,8 @@ number_of WrongBlock = 16
 
 -- nothing refused is 0
 abbrev pub verdict_number : Verdict → ℕ
-verdict_number Done = 0
-verdict_number (Refused r) = number_of r
+verdict_number (Ok tt) = 0
+verdict_number (Err r) = number_of r
 
 abbrev pub proof_number : Which → ℕ
 proof_number First = 1

@@ -1,21 +1,24 @@
-// What comes back when a call will not (document 01, "What comes back when it will not", and document 02's asks): one refusal for each
-// number of the table, 7, 8 and 9 with the proof that they speak of.
+//! What comes back when a call will not (document 01, "What comes back when it will not", and document 02's asks): one refusal for each
+//! number of the table, 7, 8 and 9 with the proof that they speak of.
 #![tactic(auto)]
 
 ghost use Rattle.std.specs.Prelude.{◌≡◌};
 ghost use Rattle.refusals.specs.Numbers.{number_of, proof_of, proof_number, verdict_number};
-ghost use Rattle.refusals.specs.Order.{is_done};
 
-// Which proof of a command: Delete carries two, the others one, their First. Of a joint proof the spelled-out proof by its place, from
-// 1 on; 0 is the joint proof's own form.
-#[derive(Clone, Copy)]
+use std::error::Error;
+use std::fmt;
+
+/// Which proof of a command: Delete carries two, the others one, their First. Of a joint proof the spelled-out proof by its place, from
+/// 1 on; 0 is the joint proof's own form.
+#[derive(Clone, Copy, Debug, PartialEq, Eq)]
 pub enum Which {
     First,
     Second,
     Place(u8),
 }
 
-#[derive(Clone, Copy)]
+/// Why a call refuses.
+#[derive(Clone, Copy, Debug, PartialEq, Eq)]
 pub enum Refusal {
     BadImage,
     BadPosition,
@@ -35,85 +38,92 @@ pub enum Refusal {
     WrongBlock,
 }
 
-#[derive(Clone, Copy)]
-pub enum Verdict {
-    Done,
-    Refused(Refusal),
-}
+/// Nothing, or the first refusal that is due.
+pub type Verdict = Result<(), Refusal>;
 
-// The refusal's number in document 01's table, from 13 on in document 02's asks.
-pub fn number(r: Refusal) -> u8
-    ensures { result ≡ number_of r }
-{
-    match r {
-        Refusal::BadImage => 1,
-        Refusal::BadPosition => 2,
-        Refusal::BadHeight => 3,
-        Refusal::Full => 4,
-        Refusal::NoRoom => 5,
-        Refusal::TooDeep => 6,
-        Refusal::BadProof(_) => 7,
-        Refusal::WrongPosition(_) => 8,
-        Refusal::WrongLabel(_) => 9,
-        Refusal::NotNeighbours => 10,
-        Refusal::LongMessage => 11,
-        Refusal::BadMetadata => 12,
-        Refusal::BadSet => 13,
-        Refusal::Repeated => 14,
-        Refusal::OutOfTime => 15,
-        Refusal::WrongBlock => 16,
+/// The refusal's number in document 01's table, from 13 on in document 02's asks.
+impl From<Refusal> for u8 {
+    ghost from_gives = { λ r n. n ≡ number_of r };
+
+    fn from(r: Refusal) -> u8 {
+        match r {
+            Refusal::BadImage => 1,
+            Refusal::BadPosition => 2,
+            Refusal::BadHeight => 3,
+            Refusal::Full => 4,
+            Refusal::NoRoom => 5,
+            Refusal::TooDeep => 6,
+            Refusal::BadProof(_) => 7,
+            Refusal::WrongPosition(_) => 8,
+            Refusal::WrongLabel(_) => 9,
+            Refusal::NotNeighbours => 10,
+            Refusal::LongMessage => 11,
+            Refusal::BadMetadata => 12,
+            Refusal::BadSet => 13,
+            Refusal::Repeated => 14,
+            Refusal::OutOfTime => 15,
+            Refusal::WrongBlock => 16,
+        }
     }
 }
 
-pub fn is_done(v: Verdict) -> bool
-    ensures { result ≡ is_done v }
-{
-    match v {
-        Verdict::Done => true,
-        Verdict::Refused(_) => false,
+/// 1 the first, 2 the second; of a joint proof the place.
+impl From<Which> for u8 {
+    ghost from_gives = { λ w n. n ≡ proof_number w };
+
+    fn from(w: Which) -> u8 {
+        match w {
+            Which::First => 1,
+            Which::Second => 2,
+            Which::Place(n) => n,
+        }
     }
 }
 
-// 0 where nothing was refused, else the refusal's number.
+/// The refusal's name in the table.
+impl fmt::Display for Refusal {
+    fn fmt<W: fmt::Write>(&self, f: &mut fmt::Formatter<W>) -> fmt::Result {
+        f.write_str(match self {
+            Refusal::BadImage => "BAD IMAGE",
+            Refusal::BadPosition => "BAD POSITION",
+            Refusal::BadHeight => "BAD HEIGHT",
+            Refusal::Full => "FULL",
+            Refusal::NoRoom => "NO ROOM",
+            Refusal::TooDeep => "TOO DEEP",
+            Refusal::BadProof(_) => "BAD PROOF",
+            Refusal::WrongPosition(_) => "WRONG POSITION",
+            Refusal::WrongLabel(_) => "WRONG LABEL",
+            Refusal::NotNeighbours => "NOT NEIGHBOURS",
+            Refusal::LongMessage => "LONG MESSAGE",
+            Refusal::BadMetadata => "BAD METADATA",
+            Refusal::BadSet => "BAD SET",
+            Refusal::Repeated => "REPEATED",
+            Refusal::OutOfTime => "OUT OF TIME",
+            Refusal::WrongBlock => "WRONG BLOCK",
+        })
+    }
+}
+
+impl Error for Refusal {}
+
+/// 0 where nothing was refused, else the refusal's number.
+/// A function and no From, since neither u8 nor Result is this crate's.
 pub fn verdict_number(v: Verdict) -> u8
     ensures { result ≡ verdict_number v }
 {
     match v {
-        Verdict::Done => 0,
-        Verdict::Refused(r) => number(r),
+        Ok(()) => 0,
+        Err(r) => u8::from(r),
     }
 }
 
-fn ordinal(w: Which) -> u8
-    ensures { result ≡ proof_number w }
-{
-    match w {
-        Which::First => 1,
-        Which::Second => 2,
-        Which::Place(n) => n,
-    }
-}
-
-// The proof that a refusal speaks of: 1 the first, 2 the second, 0 none; of a joint proof the place.
+/// The proof that a refusal speaks of: 1 the first, 2 the second, 0 none; of a joint proof the place.
+/// A number and no Option, as C and the frames have it.
 pub fn proof(r: Refusal) -> u8
     ensures { result ≡ proof_of r }
 {
     match r {
-        Refusal::BadImage => 0,
-        Refusal::BadPosition => 0,
-        Refusal::BadHeight => 0,
-        Refusal::Full => 0,
-        Refusal::NoRoom => 0,
-        Refusal::TooDeep => 0,
-        Refusal::BadProof(w) => ordinal(w),
-        Refusal::WrongPosition(w) => ordinal(w),
-        Refusal::WrongLabel(w) => ordinal(w),
-        Refusal::NotNeighbours => 0,
-        Refusal::LongMessage => 0,
-        Refusal::BadMetadata => 0,
-        Refusal::BadSet => 0,
-        Refusal::Repeated => 0,
-        Refusal::OutOfTime => 0,
-        Refusal::WrongBlock => 0,
+        Refusal::BadProof(w) | Refusal::WrongPosition(w) | Refusal::WrongLabel(w) => u8::from(w),
+        _ => 0,
     }
 }

@@ -1,9 +1,9 @@
 -- What `digest` answers, by the message's length, and that two answers to one message are equal.
 -- Assumes nothing.
-use Rattle.std.proofs.Common.{◌≡◌, ℕ, ◌+◌, ◌-◌, ◌<◌, ◌≤◌, Bool, true, false, leb, List, ◌++◌, length, replicate, sym, refl, ap, ◌∙◌, ap₂, arith, length-append, le-leb, leb-false, leb-true}
+use Rattle.refusals.specs.Order.{Verdict}
+use Rattle.std.specs.Prelude.{Ok, Err}
+use Rattle.std.proofs.Common.{◌≡◌, ℕ, ◌+◌, ◌<◌, ◌≤◌, Bool, true, false, leb, List, ◌++◌, length, replicate, sym, ap, ◌∙◌, ap₂, length-append, le-leb, leb-false, leb-true}
 use borrow.Author.Tests.{lt-leb}
-use Rattle.refusals.specs.declared.Verdict.{Verdict}
-use Rattle.refusals.specs.declared.Verdict.TheVariants.{Done, Refused}
 use Rattle.refusals.specs.declared.Refusal.TheVariants.{LongMessage}
 use Rattle.sha256.specs.declared.Digested.{Digested}
 use Rattle.sha256.specs.Hash.{hash_value, joined, sha256}
@@ -28,14 +28,6 @@ answer_done m s r h e f = answers m r (f ∙ ap (λ (v : List ℕ). digested (jo
 pub answer_refused : (m : List ℕ) (r : Digested) → longest < length m → r ≡ long_message → Answers m r
 answer_refused m r h f = answers m r (f ∙ sym (digest_refused m h))
 
--- what a part leaves
-pub fits_rest : (a b : ℕ) → a ≤ longest → leb b (longest - a) ≡ leb (a + b) longest
-fits_rest a b h = go (leb b (longest - a)) refl
-  where
-    go : (t : Bool) → leb b (longest - a) ≡ t → leb b (longest - a) ≡ leb (a + b) longest
-    go true e = e ∙ sym (le-leb (a + b) longest (omega (arith, leb-true b (longest - a) e)))
-    go false e = e ∙ sym (lt-leb (a + b) longest (omega (arith, leb-false b (longest - a) e)))
-
 -- two parts that are together within the limit
 pub fits_within : (a b : List ℕ) (r : Bool) → r ≡ leb (length a + length b) longest → r ≡ true → length (a ++ b) ≤ longest
 fits_within a b r e t = rw (length-append a b) (leb-true (length a + length b) longest (sym e ∙ t))
@@ -44,13 +36,13 @@ pub fits_not : (a b : List ℕ) (r : Bool) → r ≡ leb (length a + length b) l
 fits_not a b r e t = rw (length-append a b) (leb-false (length a + length b) longest (sym e ∙ t))
 
 -- what a caller learns
-pub answered : (m : List ℕ) (r : Digested) → Answers m r → length m ≤ longest → (r.verdict ≡ Done) × (r.bytes ≡ sha256 m)
+pub answered : (m : List ℕ) (r : Digested) → Answers m r → length m ≤ longest → (r.verdict ≡ Ok tt) × (r.bytes ≡ sha256 m)
 answered m r a h =
     let d = digest_done m h in
     (a.verdict ∙ ap (λ (x : Digested). x.verdict) d, a.bytes ∙ ap (λ (x : Digested). x.bytes) d)
 
 pub refused : (m : List ℕ) (r : Digested) → Answers m r → longest < length m
-    → (r.verdict ≡ Refused LongMessage) × (r.bytes ≡ replicate 32 0)
+    → (r.verdict ≡ Err LongMessage) × (r.bytes ≡ replicate 32 0)
 refused m r a h =
     let d = digest_refused m h in
     (a.verdict ∙ ap (λ (x : Digested). x.verdict) d, a.bytes ∙ ap (λ (x : Digested). x.bytes) d)

@@ -75,6 +75,10 @@ majority_same =
     (record { none = refl; half = λ x y z. simp halves; last = λ x y z. simp lasts })
     (bits (λ x y z. bit_xor y (bit_and (bit_xor x y) (bit_xor y z)) ≡ maj x y z) refl refl refl refl refl refl refl refl)
 
+pub majority_words : (x y z : ℕ) → x < 2 ^ 32 → y < 2 ^ 32 → z < 2 ^ 32
+    → bit_xor y (bit_and (bit_xor x y) (bit_xor y z)) ≡ maj x y z
+majority_words x y z p q r = majority_same 32 x y z p q r
+
 -- Ch without the complement
 choose_bits : (k x y z : ℕ) → x < 2 ^ k → y < 2 ^ k → z < 2 ^ k
     → bit_xor z (bit_and x (bit_xor y z)) ≡ bit_xor (bit_and x y) (bit_xor z (bit_and x z))

@@ -6,31 +6,11 @@ use lib.Seq.{take-append-le, drop-append-le}
 use Rattle.octets.specs.Numbers.{be, Bytes}
 use Rattle.octets.specs.Runs.{part, patch}
 use Rattle.octets.proofs.NumberLaws.{length-be}
-use Rattle.octets.proofs.PartLaws.{length-part}
 use Rattle.octets.proofs.PatchLaws.{patch_all}
 use Rattle.sha256.specs.Padding.{padding, padded, padded_after, blocks, block, Ends}
 use Rattle.sha256.specs.Constants.{initial}
 use Rattle.sha256.specs.Hash.{sums, compressed, hashed, hash_value, After, joined, sha256}
 use Rattle.sha256.proofs.Endings.{front_patch, padded_after-length}
-
--- block i, as the code lends it
-abbrev pub lent : List ℕ → ℕ → List ℕ
-lent p i = take (i * 64 + 64 - i * 64) (drop (i * 64) p)
-
-lent-block : (p : List ℕ) (i : ℕ) → lent p i ≡ block p i
-unfolding part
-lent-block p i = let e : i * 64 + 64 - i * 64 ≡ 64 = omega arith in rw e
-
-pub lent-length : (p : List ℕ) (i : ℕ) → i < length p / 64 → length (lent p i) ≡ 64
-lent-length p i h = ap length (lent-block p i) ∙ length-part p (i * 64) 64 (omega arith)
-
--- one more block
-pub hashed_more : (s p v x : List ℕ) (i : ℕ) → v ≡ hashed s p i → x ≡ compressed v (lent p i) → x ≡ hashed s p (i + 1)
-unfolding hashed
-hashed_more s p v x i e f = rw add-one (cc (lent-block p i))
-
-pub hashed_whole : (s p v : List ℕ) (i n : ℕ) → i ≤ n → n ≤ i → v ≡ hashed s p i → v ≡ hashed s p n
-hashed_whole s p v i n h k e = let z : i ≡ n = omega arith in rw z at e
 
 -- no block
 pub hashed_none : (s p : List ℕ) → length p < 64 → s ≡ hashed s p (length p / 64)
@@ -61,6 +41,20 @@ unfolding hashed
 hashed_rest s p i zero = rw add-zero
 hashed_rest s p i (suc j) = rw add-suc (ap₂ compressed (hashed_rest s p i j) (block_rest p i j))
 
+one_block : (s t : List ℕ) → length t ≡ 64 → hashed s t 1 ≡ compressed s t
+unfolding hashed part
+one_block s t h = ap (compressed s) (take_all 64 t (omega arith))
+
+-- a block x, then what is left of p
+pub hashed_chunk : (s v x r p : List ℕ) → length x ≡ 64 → p ≡ x ++ r → v ≡ compressed s x
+    → hashed v r (length r / 64) ≡ hashed s p (length p / 64)
+hashed_chunk s v x r p l ep e =
+    let d : drop (1 * 64) (x ++ r) ≡ r = drop_at x r 64 l in
+    let f : v ≡ hashed s (x ++ r) 1 = e ∙ sym (one_block s x l) ∙ sym (hashed_front s x r 1 (omega (arith, l))) in
+    let q : length (x ++ r) / 64 ≡ 1 + length r / 64 = rw (length-append x r) (omega (arith, l)) in
+    rw (ep, q)
+    (ap₂ (λ (u y : List ℕ). hashed u y (length r / 64)) f (sym d) ∙ hashed_rest s (x ++ r) 1 (length r / 64))
+
 -- ---- a message in parts
 
 -- whole blocks x, then what follows them
@@ -75,10 +69,6 @@ hashed-after x p s n j h a =
 pub after_none : After [] initial 0
 unfolding hashed
 after_none = record { size = refl; value = refl }
-
-one_block : (s t : List ℕ) → length t ≡ 64 → hashed s t 1 ≡ compressed s t
-unfolding hashed part
-one_block s t h = ap (compressed s) (take_all 64 t (omega arith))
 
 -- one more block
 pub after_block : (x y s v : List ℕ) (n : ℕ) → n % 64 ≡ 0 → length y ≡ 64 → After x s n → v ≡ compressed s y

@@ -2,7 +2,6 @@
 #![tactic(auto)]
 
 use refusals::{Refusal, Verdict};
-use std::num::wrapping_add_u32;
 
 mod tables;
 mod words;
@@ -20,6 +19,7 @@ ghost use Rattle.sha256.specs.Answer.{longest, digested, long_message, Answers};
 const LONGEST: usize = 4096;
 
 // A message's digest, or a refusal with 32 zero bytes.
+// A struct and no Result: the pledge says what stands in each field after a refusal too.
 #[derive(Clone, Copy)]
 pub struct Digested {
     pub verdict: Verdict,
@@ -30,18 +30,19 @@ pub struct Digested {
 fn next_word(w2: u32, w7: u32, w15: u32, w16: u32) -> u32
     ensures { result ≡ mixed w2 w7 w15 w16 }
 {
-    let a = wrapping_add_u32(words::small_sigma1(w2), w7);
-    let b = wrapping_add_u32(a, words::small_sigma0(w15));
-    wrapping_add_u32(b, w16)
+    let a = words::small_sigma1(w2).wrapping_add(w7);
+    let b = a.wrapping_add(words::small_sigma0(w15));
+    b.wrapping_add(w16)
 }
 
+// A range: the index is that of a word and, by four, that of its bytes.
 fn load(b: &[u8]) -> [u32; 16]
     requires { length b.now ≡ 64 }
     ensures { result ≡ schedule b.now 16 }
 {
     let mut w = [0u32; 16];
     for t in 0..16 {
-        w[t] = octets::four_at(b, t * 4) as u32;
+        w[t] = octets::number_at::<4>(b, t * 4) as u32;
     }
     w
 }
@@ -50,29 +51,31 @@ fn load(b: &[u8]) -> [u32; 16]
 fn first_sum(e: u32, f: u32, g: u32, h: u32, k: u32, w: u32) -> u32
     ensures { result ≡ first_sum e f g h k w }
 {
-    let a = wrapping_add_u32(h, words::big_sigma1(e));
-    let b = wrapping_add_u32(a, words::choose(e, f, g));
-    let c = wrapping_add_u32(b, k);
-    wrapping_add_u32(c, w)
+    let a = h.wrapping_add(words::big_sigma1(e));
+    let b = a.wrapping_add(words::choose(e, f, g));
+    let c = b.wrapping_add(k);
+    c.wrapping_add(w)
 }
 
 fn second_sum(a: u32, b: u32, c: u32) -> u32
     ensures { result ≡ second_sum a b c }
 {
-    wrapping_add_u32(words::big_sigma0(a), words::majority(a, b, c))
+    words::big_sigma0(a).wrapping_add(words::majority(a, b, c))
 }
 
+#[tactic(auto, unfolding(crate::specs::Hash::round, crate::specs::Hash::shifted))]
 fn one_round(s: [u32; 8], k: u32, w: u32) -> [u32; 8]
     ensures { result ≡ round s k w }
 {
     let t1 = first_sum(s[4], s[5], s[6], s[7], k, w);
     let t2 = second_sum(s[0], s[1], s[2]);
-    let a = wrapping_add_u32(t1, t2);
-    let e = wrapping_add_u32(s[3], t1);
+    let a = t1.wrapping_add(t2);
+    let e = s[3].wrapping_add(t1);
     [a, s[0], s[1], s[2], e, s[4], s[5], s[6]]
 }
 
 // 6.2.2, 3, for t = 0 to 15, with the block's own words.
+// Written out: every word and constant has a place that is known beforehand.
 fn first_rounds(s: [u32; 8], w: [u32; 16]) -> [u32; 8]
     ensures { result ≡ rounds w s 16 }
 {
@@ -153,21 +156,24 @@ fn later_rounds(s: [u32; 8], w: [u32; 16]) -> [u32; 8]
 }
 
 // 6.2.2, 4: the next hash value.
+// Written out: the eight words stay values.
+#[tactic(auto, unfolding(crate::specs::Hash::sums))]
 fn add_states(s: [u32; 8], v: [u32; 8]) -> [u32; 8]
     ensures { result ≡ sums s v }
 {
-    let a = wrapping_add_u32(v[0], s[0]);
-    let b = wrapping_add_u32(v[1], s[1]);
-    let c = wrapping_add_u32(v[2], s[2]);
-    let d = wrapping_add_u32(v[3], s[3]);
-    let e = wrapping_add_u32(v[4], s[4]);
-    let f = wrapping_add_u32(v[5], s[5]);
-    let g = wrapping_add_u32(v[6], s[6]);
-    let h = wrapping_add_u32(v[7], s[7]);
+    let a = v[0].wrapping_add(s[0]);
+    let b = v[1].wrapping_add(s[1]);
+    let c = v[2].wrapping_add(s[2]);
+    let d = v[3].wrapping_add(s[3]);
+    let e = v[4].wrapping_add(s[4]);
+    let f = v[5].wrapping_add(s[5]);
+    let g = v[6].wrapping_add(s[6]);
+    let h = v[7].wrapping_add(s[7]);
     [a, b, c, d, e, f, g, h]
 }
 
 // 6.2.2, 1 to 4, for one block. Only sixteen words of the schedule are held.
+#[tactic(auto, using(crate::proofs::Rounds::compressed_made, crate::proofs::Windows::begun))]
 fn compress(s: [u32; 8], b: &[u8]) -> [u32; 8]
     requires { length b.now ≡ 64 }
     ensures { result ≡ compressed s b.now }
@@ -182,17 +188,17 @@ fn compress(s: [u32; 8], b: &[u8]) -> [u32; 8]
 fn each_block(start: [u32; 8], b: &[u8]) -> [u32; 8]
     ensures { result ≡ hashed start b.now (length b.now / 64) }
 {
-    let n = b.len() / 64;
     let mut s = start;
-    for i in 0..n {
-        let at = i * 64;
-        let next = compress(s, &b[at..at + 64]);
+    for block in b.chunks_exact(64) {
+        // Named first: an array is not made from itself in one step.
+        let next = compress(s, block);
         s = next;
     }
     s
 }
 
 // The same, and no pass is entered for a message without a whole block, as nearly all are that a label hashes.
+#[tactic(auto, using(crate::proofs::Hashes::hashed_none))]
 fn absorb(start: [u32; 8], b: &[u8]) -> [u32; 8]
     ensures { result ≡ hashed start b.now (length b.now / 64) }
 {
@@ -222,7 +228,7 @@ fn end_blocks(t: &mut [u8], before: usize, m: &[u8]) -> usize
     let end = block_count(rest) * 64;
     octets::copy(t, 0, &m[n / 64 * 64..n]);
     t[rest] = 128;
-    octets::put_four(t, end - 4, ((before + n) * 8) as u64);
+    octets::put_number::<4>(t, end - 4, ((before + n) * 8) as u64);
     end
 }
 
@@ -239,6 +245,7 @@ fn finish(s: [u32; 8], before: usize, m: &[u8]) -> [u32; 8]
 }
 
 // The hash value of a message.
+#[tactic(auto, using(crate::proofs::Hashes::after_none), unfolding(crate::specs::Constants::initial))]
 fn hash(m: &[u8]) -> [u32; 8]
     requires { length m.now ≤ longest }
     ensures { result ≡ hash_value m.now }
@@ -247,6 +254,7 @@ fn hash(m: &[u8]) -> [u32; 8]
 }
 
 // a, and b right after it, at the front of a block.
+#[tactic(auto, using(octets::proofs::PatchLaws::patch_next))]
 fn fill(t: &mut [u8], a: &[u8], b: &[u8])
     requires { length a.now + length b.now ≤ length t.old }
     ensures { t.new ≡ patch t.old 0 (a.now ++ b.now) }
@@ -256,7 +264,7 @@ fn fill(t: &mut [u8], a: &[u8], b: &[u8])
 }
 
 // The block that a begins and b ends.
-fn shared_block<'a>(s: [u32; 8], a: &'a [u8], b: &'a [u8]) -> [u32; 8]
+fn shared_block(s: [u32; 8], a: &[u8], b: &[u8]) -> [u32; 8]
     requires { length a.now + length b.now ≡ 64 }
     ensures { result ≡ compressed s (a.now ++ b.now) }
 {
@@ -265,8 +273,9 @@ fn shared_block<'a>(s: [u32; 8], a: &'a [u8], b: &'a [u8]) -> [u32; 8]
     each_block(s, &t)
 }
 
-// A message that ends with a and b, at most a block together.
-fn finish_short<'a>(s: [u32; 8], before: usize, a: &'a [u8], b: &'a [u8]) -> [u32; 8]
+// A message that ends with a and b, at most a block together. `before` is in bytes, as the length at the end is.
+// Both this and the block above put the two parts together; the block above is whole, and here the end is padded.
+fn finish_short(s: [u32; 8], before: usize, a: &[u8], b: &[u8]) -> [u32; 8]
     requires { (before % 64 ≡ 0) × (length a.now + length b.now ≤ 64)
         × (before + (length a.now + length b.now) ≤ longest) }
     ensures { (x : List ℕ) → After x s before → result ≡ hash_value (x ++ (a.now ++ b.now)) }
@@ -277,7 +286,8 @@ fn finish_short<'a>(s: [u32; 8], before: usize, a: &'a [u8], b: &'a [u8]) -> [u3
 }
 
 // A message that ends with a, at most a block, and b. Only the block that both have a part in is put together.
-fn finish_both<'a>(s: [u32; 8], before: usize, a: &'a [u8], b: &'a [u8]) -> [u32; 8]
+// `before` is in bytes, as the length at the end is.
+fn finish_both(s: [u32; 8], before: usize, a: &[u8], b: &[u8]) -> [u32; 8]
     requires { (before % 64 ≡ 0) × (length a.now ≤ 64)
         × (before + (length a.now + length b.now) ≤ longest) }
     ensures { (x : List ℕ) → After x s before → result ≡ hash_value (x ++ (a.now ++ b.now)) }
@@ -291,7 +301,8 @@ fn finish_both<'a>(s: [u32; 8], before: usize, a: &'a [u8], b: &'a [u8]) -> [u32
 }
 
 // The hash value of a message in two parts.
-fn hash_joined<'a>(a: &'a [u8], b: &'a [u8]) -> [u32; 8]
+// A message in one part has its own function: it is read where it stands, and nothing is put together.
+fn hash_joined(a: &[u8], b: &[u8]) -> [u32; 8]
     requires { length a.now + length b.now ≤ longest }
     ensures { result ≡ hash_value (a.now ++ b.now) }
 {
@@ -300,20 +311,14 @@ fn hash_joined<'a>(a: &'a [u8], b: &'a [u8]) -> [u32; 8]
     finish_both(s, n, &a[n..a.len()], b)
 }
 
-// The word as a wider number.
-fn wide(x: u32) -> u64
-    ensures { result ≡ x }
-{
-    x as u64
-}
-
 // 3.1: the words of a hash value, the highest byte of each first.
+// A range: the index is that of a word and, by four, that of its bytes.
 fn to_bytes(s: [u32; 8]) -> [u8; 32]
     ensures { result ≡ joined s }
 {
     let mut out = [0u8; 32];
     for i in 0..8 {
-        octets::put_four(&mut out, i * 4, wide(s[i]));
+        octets::put_number::<4>(&mut out, i * 4, u64::from(s[i]));
     }
     out
 }
@@ -322,10 +327,9 @@ fn to_bytes(s: [u32; 8]) -> [u8; 32]
 fn done(s: [u32; 8]) -> Digested
     ensures { result ≡ digested (joined s) }
 {
-    let bytes = to_bytes(s);
     Digested {
-        verdict: Verdict::Done,
-        bytes,
+        verdict: Ok(()),
+        bytes: to_bytes(s),
     }
 }
 
@@ -333,37 +337,38 @@ fn long_message() -> Digested
     ensures { result ≡ long_message }
 {
     Digested {
-        verdict: Verdict::Refused(Refusal::LongMessage),
+        verdict: Err(Refusal::LongMessage),
         bytes: [0u8; 32],
     }
 }
 
 // The digest of a message of at most 4,096 bytes. A longer one is refused.
+#[tactic(auto, using(crate::proofs::Answers::answer_done, crate::proofs::Answers::answer_refused))]
 #[inline(never)]
 pub fn digest(m: &[u8]) -> Digested
     ensures { Answers m.now result }
 {
     if m.len() <= LONGEST {
+        // Returned early: an `if` that is the answer is copied once more.
         return done(hash(m));
     }
     long_message()
 }
 
-// Do a and b bytes make a message that is not long?
+// Do a and b bytes make a message that is not long? No sum is made, so none can wrap.
 fn fits(a: usize, b: usize) -> bool
     ensures { result ≡ nat_le (a + b) longest }
 {
-    if LONGEST < a {
-        return false;
-    }
-    b <= LONGEST - a
+    a <= LONGEST && b <= LONGEST - a
 }
 
 // The digest of a message in two parts, which stay where they are: that of `first` with `second` right after it.
-pub fn digest_joined<'a>(first: &'a [u8], second: &'a [u8]) -> Digested
+#[tactic(auto, using(crate::proofs::Answers::answer_done, crate::proofs::Answers::answer_refused, crate::proofs::Answers::fits_within, crate::proofs::Answers::fits_not))]
+pub fn digest_joined(first: &[u8], second: &[u8]) -> Digested
     ensures { Answers (first.now ++ second.now) result }
 {
     if fits(first.len(), second.len()) {
+        // Returned early: an `if` that is the answer is copied once more.
         return done(hash_joined(first, second));
     }
     long_message()

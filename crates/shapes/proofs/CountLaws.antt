@@ -10,17 +10,11 @@ use mathlib.Core.Bool.{Bool, true, false, cond}
 use mathlib.Core.List.{List, [], ◌∷◌, ◌++◌}
 use lib.Dec.{leb, ltb}
 use lib.ListN.{length}
-use borrow.Author.Tests.{lt-ltb, le-ltb, le-leb, lt-leb, ltb-true, ltb-false}
+use borrow.Author.Tests.{lt-ltb, le-ltb, le-leb, lt-leb}
 use Rattle.skiplist.specs.Row.{Column}
 use Rattle.skiplist.specs.Length.{tallest, right_columns, down_columns}
+use Rattle.skiplist.proofs.Cases.{order}
 use Rattle.shapes.specs.Counters.{at_least}
-
-pub order : (a b : ℕ) → (a < b) ⊎ (b ≤ a)
-order a b = go (ltb a b) refl
-  where
-    go : (t : Bool) → ltb a b ≡ t → (a < b) ⊎ (b ≤ a)
-    go true e = inl (ltb-true a b e)
-    go false e = inr (ltb-false a b e)
 
 -- the greater of two numbers
 abbrev Greater : ℕ → ℕ → ℕ → Type 0

@@ -4,39 +4,20 @@
 use Prim.Native.Nat.{ℕ, suc, ◌+◌, ◌≤◌, ◌<◌}
 use native.Mathlib.Omega.{arith}
 use native.Mathlib.Numerals.{add-one}
-use native.Mathlib.Decide.{ℕ_discrete}
 use mathlib.Core.Path.{◌≡◌, refl, sym, ap, ◌∙◌}
 use mathlib.Core.Logic.{◌⊎◌, inl, inr}
 use mathlib.Core.Bool.{cond}
 use mathlib.Core.List.{List, [], ◌∷◌, ◌++◌, append_assoc}
 use lib.Dec.{leb, ltb}
-use lib.ListN.{length, get_or, set, drop, length-append}
-use lib.Seq.{get_or-set_same, get_or-set_other, set_at}
+use lib.ListN.{length, set, drop, length-append}
+use lib.Seq.{set_at}
 use borrow.Author.Tests.{lt-ltb, le-ltb, le-leb, lt-leb}
 use Rattle.octets.specs.Runs.{patch}
 use Rattle.skiplist.specs.Row.{Column}
 use Rattle.skiplist.specs.Length.{tallest, right_columns, entry_count}
 use Rattle.shapes.specs.Counters.{at_least, rights_from, downs_above, Counts, Raised, downs_of}
-use Rattle.shapes.proofs.CountLaws.{order, rights_more, downs_more}
-
--- one counter more is raised
-pub raise_more : (r m : List ℕ) (l n : ℕ) → l < length r → ((j : ℕ) → get_or r j 0 ≡ cond (ltb j l) n (get_or m j 0))
-    → (j : ℕ) → get_or (set r l n) j 0 ≡ cond (ltb j (l + 1)) n (get_or m j 0)
-raise_more r m l n h f j = go (ℕ_discrete j l)
-  where
-    go : Dec (j ≡ l) → get_or (set r l n) j 0 ≡ cond (ltb j (l + 1)) n (get_or m j 0)
-    go (yes e) = rw (e, lt-ltb l (l + 1) (omega arith)) (get_or-set_same r l n 0 h)
-    go (no e) = get_or-set_other r l j n 0 e ∙ f j ∙ by (order j l)
-      where
-        by : (j < l) ⊎ (l ≤ j) → cond (ltb j l) n (get_or m j 0) ≡ cond (ltb j (l + 1)) n (get_or m j 0)
-        by (inl k) = rw (lt-ltb j l k, lt-ltb j (l + 1) (omega arith))
-        by (inr k) =
-            let ne : l + 1 ≤ j = later (order l j) in
-            rw (le-ltb j l k, le-ltb j (l + 1) ne)
-          where
-            later : (l < j) ⊎ (j ≤ l) → l + 1 ≤ j
-            later (inl q) = omega arith
-            later (inr q) = absurd (e (omega arith))
+use Rattle.skiplist.proofs.Cases.{order}
+use Rattle.shapes.proofs.CountLaws.{rights_more, downs_more}
 
 -- the counters of the down entries with a column of height h in front
 pub downs-raised : (m r : List ℕ) (d : Column) (B : List Column) → Counts (downs_above B) m

@@ -5,37 +5,19 @@ use native.Mathlib.Omega.{arith}
 use native.Mathlib.Numerals.{add-one}
 use native.Mathlib.Nat.{zero-add, add-zero}
 use mathlib.Core.Path.{◌≡◌, refl, sym, ap, ◌∙◌}
-use mathlib.Core.Bool.{true}
 use mathlib.Core.List.{List, [], ◌∷◌, ◌++◌, append-nil, append_assoc}
 use lib.ListN.{length, get_or, set, replicate, length-append, length-map}
 use lib.Seq.{get_or_at}
 use Rattle.octets.specs.Runs.{patch}
 use Rattle.octets.proofs.PatchLaws.{set_before}
 use Rattle.skiplist.specs.Length.{entry_count}
-use Rattle.skiplist.specs.Limits.{most_blocks, most_height}
 use Rattle.skiplist.specs.Blocks.{Block, column, row}
 use Rattle.skiplist.proofs.BlockLaws.{row-append}
-use Rattle.archive.specs.declared.Layout.{Layout}
-use Rattle.archive.specs.Form.{image_bytes}
-use Rattle.archive.specs.Reading.{layout_of, count_of, height_at, block_at, blocks_from, sound}
+use Rattle.archive.specs.Reading.{count_of, height_at, block_at, blocks_from}
 use Rattle.archive.proofs.RecordLaws.{next_block, no_blocks, length-blocks}
-use Rattle.archive.proofs.SoundLaws.{sound_is, low_at}
 use Rattle.shapes.specs.Counters.{rights_from, downs_above, Counts, Raised, downs_of, entries_up_to, columns_from}
 use Rattle.shapes.proofs.PassLaws.{downs-raised, rights-raised, downs_few, rights_few, both_counters}
 use Rattle.shapes.proofs.PassLaws.{length-downs, downs-cons, set_written}
-
-module _ (b : List ℕ) (s : sound b ≡ true) where
-  pub few : count_of b ≤ most_blocks
-  few = (sound_is b s).frame.few
-
-  pub room : (i : ℕ) → i < count_of b → image_bytes (i + 1) ≤ length b
-  room i h = omega (arith, (sound_is b s).frame.room)
-
-  pub low_height : (i : ℕ) → i < count_of b → height_at b i ≤ most_height
-  low_height i h = low_at b (count_of b) i (sound_is b s).heights h
-
-pub count_is : (b : List ℕ) (x : Layout) → x ≡ layout_of b → x.count ≡ count_of b
-count_is b x e = ap (λ (y : Layout). y.count) e
 
 pub columns_none : (b : List ℕ) → columns_from b (count_of b) ≡ []
 columns_none b = let e : count_of b - count_of b ≡ 0 = omega arith in rw (e, no_blocks b (count_of b))

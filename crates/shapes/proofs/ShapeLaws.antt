@@ -1,5 +1,6 @@
 -- The numbers that the passes leave are those of document 01's ways, and the three answers of `shape`.
 -- Assumes nothing.
+use Rattle.std.specs.Prelude.{Ok, Err}
 use Prim.Native.Nat.{ℕ, zero, suc, ◌+◌, ◌≤◌, ◌<◌}
 use native.Mathlib.Omega.{arith}
 use native.Mathlib.Nat.{zero-add, add-zero}
@@ -11,7 +12,6 @@ use borrow.Author.Tests.{lt-ltb, le-ltb}
 use Rattle.octets.specs.Runs.{patch}
 use Rattle.octets.proofs.PatchLaws.{length-patch, patch_over}
 use Rattle.refusals.specs.declared.Refusal.TheVariants.{BadImage, NoRoom}
-use Rattle.refusals.specs.declared.Verdict.TheVariants.{Done, Refused}
 use Rattle.skiplist.specs.Length.{entry_count}
 use Rattle.skiplist.specs.Blocks.{Block, row}
 use Rattle.skiplist.proofs.Theorems.{way-length}
@@ -52,7 +52,7 @@ module _ (b : List ℕ) (s : sound b ≡ true) where
       (sym (entries-snoc (blocks_of b) 0 i ∙ rw (zero-add i)))
 
   pub done : (out after : List ℕ) (n : ℕ) → n ≡ count_of b → n ≤ length out → after ≡ patch out 0 (entries_up_to b (count_of b))
-      → Shapes b out (record { verdict = Done; blocks = n }) after
+      → Shapes b out (record { verdict = Ok tt; blocks = n }) after
   unfolding shape_of shape_after
   done out after n en h e =
       let r = le-ltb (length out) (count_of b) (omega arith) in
@@ -63,13 +63,13 @@ module _ (b : List ℕ) (s : sound b ≡ true) where
       }
 
   pub no_room : (out : List ℕ) → length out < count_of b
-      → Shapes b out (record { verdict = Refused NoRoom; blocks = 0 }) out
+      → Shapes b out (record { verdict = Err NoRoom; blocks = 0 }) out
   unfolding shape_of shape_after
   no_room out h =
       let r = lt-ltb (length out) (count_of b) h in
       record { verdict = rw (s, r); blocks = rw (s, r); entries = rw (s, r) }
 
-pub bad_image : (b out : List ℕ) → sound b ≡ false → Shapes b out (record { verdict = Refused BadImage; blocks = 0 }) out
+pub bad_image : (b out : List ℕ) → sound b ≡ false → Shapes b out (record { verdict = Err BadImage; blocks = 0 }) out
 unfolding shape_of shape_after
 bad_image b out s = record { verdict = rw s; blocks = rw s; entries = rw s }
 

@@ -1,6 +1,7 @@
 -- What apply answers: each return of the plan is the first refusal that is due, or none is; and where none is, the
 -- command's edit of records leaves the edited row's image.
 -- Assumes nothing.
+use Rattle.std.specs.Prelude.{Ok, Err, is_ok}
 use Prim.Native.Nat.{ℕ, ◌+◌, ◌-◌, ◌≤◌, ◌<◌}
 use native.Mathlib.Omega.{arith}
 use mathlib.Core.Path.{◌≡◌, refl, sym, ap, ◌∙◌}
@@ -11,9 +12,7 @@ use lib.ListN.{length, take, drop, length-append, length-drop}
 use lib.Seq.{length-take-le}
 use borrow.Author.Tests.{lt-ltb, le-ltb, ltb-false, not-false}
 use Rattle.refusals.specs.declared.Refusal.TheVariants.{BadImage, NoRoom, Repeated}
-use Rattle.refusals.specs.declared.Verdict.{Verdict}
-use Rattle.refusals.specs.declared.Verdict.TheVariants.{Done, Refused}
-use Rattle.refusals.specs.Order.{verdict_of, is_done, settled}
+use Rattle.refusals.specs.Order.{verdict_of, settled, Verdict}
 use Rattle.refusals.proofs.OrderLaws.{done_is, done-none, done_settled, refused-settled, verdict_then}
 use Rattle.skiplist.specs.Limits.{most_blocks}
 use Rattle.skiplist.specs.Blocks.{Block}
@@ -36,7 +35,7 @@ use Rattle.store.specs.Passes.{refused_edit, count_after}
 use Rattle.store.specs.Pledges.{Applies}
 
 -- ---- what an admission that is done says
-pub admission_is : (k : Command) (n : ℕ) (v : Verdict) → v ≡ admitted_of k n → is_done v ≡ true → Admitted k n
+pub admission_is : (k : Command) (n : ℕ) (v : Verdict) → v ≡ admitted_of k n → is_ok v ≡ true → Admitted k n
 unfolding admitted_of
 admission_is k n v e d = admitted_is k n (sym e ∙ done_is v d)
 
@@ -62,15 +61,9 @@ edited-length Delete p h t bs a l =
           bs,
     )
 
-pub count_small : (o : Operation) (n : ℕ) → count_after o n ≤ n + 1
-count_small Read n = omega arith
-count_small Replace n = omega arith
-count_small Insert n = omega arith
-count_small Delete n = omega arith
-
 -- ---- the plan
 module _ (b : List ℕ) (k : Command) where
-  pub edit_bad_image : sound b ≡ false → refused_edit (Refused BadImage) ≡ apply_of b k
+  pub edit_bad_image : sound b ≡ false → refused_edit (Err BadImage) ≡ apply_of b k
   unfolding apply_of apply_verdict
   edit_bad_image s = rw s
 
@@ -79,22 +72,22 @@ module _ (b : List ℕ) (k : Command) where
     unfolding apply_verdict admitted_of
     verdict_is = rw (s, ev) (verdict_then (admission_rules k (count_of b)) (closing_rules b k))
 
-    pub edit_not_admitted : is_done v ≡ false → refused_edit v ≡ apply_of b k
+    pub edit_not_admitted : is_ok v ≡ false → refused_edit v ≡ apply_of b k
     unfolding apply_of
     edit_not_admitted d = rw verdict_is (go v d)
       where
-        go : (w : Verdict) → is_done w ≡ false
+        go : (w : Verdict) → is_ok w ≡ false
             → refused_edit w ≡ (let z = settled w (verdict_of (closing_rules b k)) w in
             record { verdict = z; count = settled z (length (row_after b k)) 0 })
-        go Done e = never cc
-        go (Refused r) e = refl
+        go (Ok tt) e = never cc
+        go (Err r) e = refl
 
-    pub edit_repeated : is_done v ≡ true → repeats (meaning k) (blocks_of b) ≡ true
-        → refused_edit (Refused Repeated) ≡ apply_of b k
+    pub edit_repeated : is_ok v ≡ true → repeats (meaning k) (blocks_of b) ≡ true
+        → refused_edit (Err Repeated) ≡ apply_of b k
     unfolding apply_of
     edit_repeated d e = rw (verdict_is, done_is v d, e)
 
-    module _ (d : is_done v ≡ true) (fresh : repeats (meaning k) (blocks_of b) ≡ false) (m : ℕ)
+    module _ (d : is_ok v ≡ true) (fresh : repeats (meaning k) (blocks_of b) ≡ false) (m : ℕ)
         (em : m ≡ count_after k.operation (count_of b)) where
       admission : Admitted k (count_of b)
       admission = admission_is k (count_of b) v ev d
@@ -107,7 +100,7 @@ module _ (b : List ℕ) (k : Command) where
           (rw l admission.within)
           ∙ rw l)
 
-      pub edit_no_room : length b < image_bytes m → refused_edit (Refused NoRoom) ≡ apply_of b k
+      pub edit_no_room : length b < image_bytes m → refused_edit (Err NoRoom) ≡ apply_of b k
       unfolding apply_of
       edit_no_room h = rw (
         verdict_is,
@@ -117,7 +110,7 @@ module _ (b : List ℕ) (k : Command) where
             (rw count_is at h),
       )
 
-      pub edit_planned : image_bytes m ≤ length b → ◌≡◌ {A = Applied} (record { verdict = Done; count = m })
+      pub edit_planned : image_bytes m ≤ length b → ◌≡◌ {A = Applied} (record { verdict = Ok tt; count = m })
           (apply_of b k)
       unfolding apply_of
       edit_planned h =
@@ -135,7 +128,7 @@ module _ (b : List ℕ) (k : Command) where
     pub admitted : Admitted k (count_of b)
     pub room : image_bytes (length (row_after b k)) ≤ length b
 
-  pub editable : apply_verdict b k ≡ Done → Editable
+  pub editable : apply_verdict b k ≡ Ok tt → Editable
   unfolding apply_verdict admitted_of
   editable e =
       let n = done-none (apply_rules b k) e in
@@ -148,10 +141,12 @@ module _ (b : List ℕ) (k : Command) where
             (done-none (closing_rules b k) a.1).1.0;
       }
     where
-      split : (w : Verdict) → settled w (verdict_of (closing_rules b k)) w ≡ Done
-          → (is_done w ≡ true) × (verdict_of (closing_rules b k) ≡ Done)
-      split Done f = (refl, f)
-      split (Refused r) f = never cc
+      split : (w : Verdict) → settled w (verdict_of (closing_rules b k)) w ≡ Ok tt
+          → (is_ok w ≡ true) × (verdict_of (closing_rules b k) ≡ Ok tt)
+      split (Ok tt) f = (refl, f)
+      split (Err r) f = never cc
+
+pub ruleset planning = (admission_is, verdict_is, edit_repeated, edit_no_room, edit_planned)
 
 -- Insert's room, in the row and in the buffer
 pub insert_ready : (b : List ℕ) (k : Command) → Editable b k → k.operation ≡ Insert
@@ -169,13 +164,13 @@ insert_ready b k a e =
     below (inl h) f = h
     below (inr h) f = absurd (f (omega (arith, (sound_is b a.good).frame.few)))
 
-pub planned_edit : (b : List ℕ) (k : Command) (t : Applied) → t ≡ apply_of b k → is_done t.verdict ≡ true
-    → apply_verdict b k ≡ Done
+pub planned_edit : (b : List ℕ) (k : Command) (t : Applied) → t ≡ apply_of b k → is_ok t.verdict ≡ true
+    → apply_verdict b k ≡ Ok tt
 unfolding apply_of
-planned_edit b k t e d = done_is (apply_verdict b k) (sym (ap (λ (q : Applied). is_done q.verdict) e) ∙ d)
+planned_edit b k t e d = done_is (apply_verdict b k) (sym (ap (λ (q : Applied). is_ok q.verdict) e) ∙ d)
 
 -- ---- the pledge
-pub apply_done : (b : List ℕ) (k : Command) (t : Applied) (after : List ℕ) → t ≡ apply_of b k → is_done t.verdict
+pub apply_done : (b : List ℕ) (k : Command) (t : Applied) (after : List ℕ) → t ≡ apply_of b k → is_ok t.verdict
     ≡ true
     → after ≡ rewritten b (row_after b k) → Applies b k t after
 unfolding apply_of image_after
@@ -185,10 +180,10 @@ apply_done b k t after e d ea =
       count = ap (λ (q : Applied). q.count) e;
       image = ea
           ∙ sym (done_settled (apply_verdict b k) (rewritten b (row_after b k)) b
-          (sym (ap (λ (q : Applied). is_done q.verdict) e) ∙ d));
+          (sym (ap (λ (q : Applied). is_ok q.verdict) e) ∙ d));
     }
 
-pub apply_refused : (b : List ℕ) (k : Command) (t : Applied) → t ≡ apply_of b k → is_done t.verdict ≡ false
+pub apply_refused : (b : List ℕ) (k : Command) (t : Applied) → t ≡ apply_of b k → is_ok t.verdict ≡ false
     → Applies b k t b
 unfolding apply_of image_after
 apply_refused b k t e d =
@@ -196,5 +191,5 @@ apply_refused b k t e d =
       verdict = ap (λ (q : Applied). q.verdict) e;
       count = ap (λ (q : Applied). q.count) e;
       image = sym (refused-settled (apply_verdict b k) (rewritten b (row_after b k)) b
-          (sym (ap (λ (q : Applied). is_done q.verdict) e) ∙ d));
+          (sym (ap (λ (q : Applied). is_ok q.verdict) e) ∙ d));
     }

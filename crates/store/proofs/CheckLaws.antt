@@ -1,12 +1,12 @@
 -- What check answers: the rank and label of the image's tree, made in one pass, are the row's metadata.
 -- Assumes nothing.
+use Rattle.std.specs.Prelude.{Ok, Err}
 use Prim.Native.Nat.{ℕ, ◌-◌, ◌^◌, ◌<◌}
 use native.Mathlib.Omega.{arith}
 use mathlib.Core.Path.{◌≡◌, ap, ◌∙◌}
-use mathlib.Core.Bool.{false}
+use mathlib.Core.Bool.{true, false}
 use mathlib.Core.List.{List}
 use Rattle.refusals.specs.declared.Refusal.TheVariants.{BadImage}
-use Rattle.refusals.specs.declared.Verdict.TheVariants.{Done, Refused}
 use Rattle.sha256.specs.Hash.{sha256}
 use Rattle.skiplist.specs.Tree.{rank}
 use Rattle.skiplist.specs.Sides.{side_of}
@@ -19,33 +19,31 @@ use Rattle.commands.specs.Meaning.{no_metadata}
 use Rattle.labels.specs.declared.Side as code
 use Rattle.labels.specs.CodeSides.{to_side, coded}
 use Rattle.labels.proofs.CodeLaws.{code_side}
-use Rattle.archive.specs.declared.Layout.{Layout}
 use Rattle.archive.specs.Reading.{count_of, blocks_of, sound}
 use Rattle.archive.proofs.RecordLaws.{length-blocks}
 use Rattle.store.specs.Answers.{check_verdict, check_of}
-use Rattle.store.specs.Passes.{Opened, tree_at}
+use Rattle.store.specs.Passes.{tree_at}
 use Rattle.store.specs.Pledges.{Checks}
-use Rattle.store.proofs.RunLaws.{count_is, few}
+use Rattle.store.proofs.RunLaws.{few}
 use Rattle.store.proofs.EntryLaws.{full_side}
 
 pub check_refused : (b : List ℕ) → sound b ≡ false → Checks b
-    (record { verdict = Refused BadImage; metadata = no_metadata })
+    (record { verdict = Err BadImage; metadata = no_metadata })
 unfolding check_of check_verdict
 check_refused b e = record { verdict = rw e; metadata = rw e }
 
-pub check_done : (b : List ℕ) (x : Layout) (t : code.Side) → Opened b x → t ≡ side_of coded (tree_at b 0 x.count)
-    → Checks b (record { verdict = Done; metadata = record { count = t.rank; label = t.label } })
+pub check_done : (b : List ℕ) (t : code.Side) → sound b ≡ true → t ≡ side_of coded (tree_at b 0 (count_of b))
+    → Checks b (record { verdict = Ok tt; metadata = record { count = t.rank; label = t.label } })
 unfolding check_of check_verdict
-check_done b x t o et =
+check_done b t good et =
     let u = root (blocks_of b) in
-    let z : x.count - 0 ≡ count_of b = omega (arith, count_is b x o) in
+    let z : count_of b - 0 ≡ count_of b = omega arith in
     let e : t ≡ side_of coded u = et ∙ rw z in
     let fits : rank u < 2 ^ 64 = omega (
       arith,
       root-rank (blocks_of b),
       length-blocks b 0 (count_of b),
-      few b x o,
-      count_is b x o,
+      few b good,
     ) in
     let s : to_side (side_of coded u) ≡ side_of (sides sha256) u = (code_side u fits).side_is in
     let f = full_side u (tree_full head (row (blocks_of b))) in
@@ -53,4 +51,4 @@ check_done b x t o et =
     let m : ◌≡◌ {A = Metadata} (record { count = t.rank; label = t.label })
     (record { count = (side_of (sides sha256) u).rank; label = (side_of (sides sha256) u).label }) =
     rw (e, ap (λ (y : Side). y.rank) s, l) in
-    record { verdict = rw o.good; metadata = rw o.good m }
+    record { verdict = rw good; metadata = rw good m }

@@ -1,9 +1,8 @@
 -- The bytes of entries over the code's sides: each has 38 bytes, the entries of open slots are written one before the
 -- other, and what the code writes for a slot or a crossing is that entry's bytes.
 -- Assumes nothing.
-use Prim.Native.Nat.{ℕ, zero, suc, ◌+◌, ◌*◌, ◌≤◌, ◌<◌}
+use Prim.Native.Nat.{ℕ, zero, suc, ◌+◌, ◌-◌, ◌*◌, ◌≤◌, ◌<◌}
 use native.Mathlib.Omega.{arith}
-use native.Mathlib.Numerals.{add-one}
 use mathlib.Core.Path.{◌≡◌, refl, ap, sym, ◌∙◌}
 use mathlib.Core.Logic.{◌⊎◌, inl, inr}
 use mathlib.Core.Bool.{Bool, true, false, cond}
@@ -12,7 +11,7 @@ use lib.ListN.{length, get_or, length-append}
 use lib.Dec.{ltb}
 use borrow.Author.Tests.{lt-ltb, le-ltb}
 use Rattle.octets.specs.Runs.{patch}
-use Rattle.octets.proofs.PatchLaws.{patch_before}
+use Rattle.octets.proofs.PatchLaws.{of_part, patch_none, patch_before}
 use Rattle.skiplist.specs.Limits.{digest_bytes}
 use Rattle.skiplist.specs.Tree.{Tree, empty, leaf, node}
 use Rattle.skiplist.specs.Sides.{side_of}
@@ -24,9 +23,12 @@ use Rattle.labels.specs.declared.Side.{Side}
 use Rattle.labels.specs.CodeSides.{to_side, no_side, leaf_of, node_of, coded}
 use Rattle.proofbytes.specs.Layout.{down_kind, right_kind, entry_size}
 use Rattle.proofbytes.specs.Writing.{field_bytes, entry_bytes, entries_bytes}
-use Rattle.proofbytes.proofs.WriteLaws.{length_fields}
+use Rattle.proofbytes.proofs.WriteLaws.{length-header, length_fields, length-stop}
 use Rattle.store.specs.Passes.{slot_of, Sized, item_at, run_of, tree_at, bytes_of, open_of, span_of, cross_at}
-use Rattle.store.proofs.SlotLaws.{get_or_any}
+use Rattle.std.proofs.lemmas.List.{get_or_default}
+
+-- a lent part that is written comes back as a patch
+pub ruleset lent = (of_part, length-header, length_fields, length-stop)
 
 pub bytes-cons : (e : Entry Side) (p : List (Entry Side)) → bytes_of (e ∷ p) ≡ bytes_of (e ∷ []) ++ bytes_of p
 unfolding entries_bytes
@@ -105,11 +107,17 @@ cross_more b i m (suc h) t e et =
     rw et (sym (right-bytes (suc h) (side_of coded (tree_at b i m))
     (full_side (tree_at b i m) (tree_full (item_at b i) (run_of b i m)))))
 
+pub ruleset crossed = (cross-zero, cross_more)
+
+pub ruleset opened = (open_none, open_one, open-bytes, no_bytes, patch_none)
+
 -- ---- the entries of several slots
-pub span_next : (s : List Side) (l m : ℕ) (d : Side) → l ≤ m → m + 1 < length s
-    → open_of (m + 1) (get_or s (m + 1) d) ++ span_of s l m ≡ span_of s l (m + 1)
+pub span_next : (s : List Side) (l m : ℕ) (d : Side) → l < m → m < length s
+    → open_of m (get_or s m d) ++ span_of s l (m - 1) ≡ span_of s l m
 unfolding span_of
-span_next s l m d k h = rw (get_or_any s (m + 1) d no_side h, add-one) (sym (rw (lt-ltb l (suc m) (omega arith))))
+span_next s l zero d k h = absurd (omega arith)
+span_next s l (suc m) d k h =
+    let q : suc m - 1 ≡ m = omega arith in rw (get_or_default s (suc m) d no_side h, q) (sym (rw (lt-ltb l (suc m) k)))
 
 pub span_none : (s : List Side) (l m : ℕ) → m ≤ l → span_of s l m ≡ []
 unfolding span_of
@@ -140,30 +148,32 @@ whole-span s l (suc m) z = go (ltb l (suc m)) (whole-span s l m z)
     go false ih = whole_none
 
 -- what one more slot leaves in the buffer
-module _ (s : List Side) (l m h r q : ℕ) (d : Side) (low : l ≤ m) (more : m < h) (size : h < length s)
-    (eq : q + length (span_of s l m) ≡ r) where
-  next_count : length (open_of (m + 1) (get_or s (m + 1) d)) + length (span_of s l m) ≡ length (span_of s l (m + 1))
+module _ (s : List Side) (l m h r q : ℕ) (d : Side) (low : l < m) (more : m ≤ h) (size : h < length s)
+    (eq : q + length (span_of s l (m - 1)) ≡ r) where
+  next_count : length (open_of m (get_or s m d)) + length (span_of s l (m - 1)) ≡ length (span_of s l m)
   next_count =
-      sym (length-append (open_of (m + 1) (get_or s (m + 1) d)) (span_of s l m))
+      sym (length-append (open_of m (get_or s m d)) (span_of s l (m - 1)))
       ∙ ap length (span_next s l m d low (omega arith))
 
-  pub span_room : length (span_of s l h) ≤ r → length (open_of (m + 1) (get_or s (m + 1) d)) ≤ q
-  span_room f = omega (arith, next_count, span-le s l (m + 1) h (omega arith))
+  pub span_room : length (span_of s l h) ≤ r → length (open_of m (get_or s m d)) ≤ q
+  span_room f = omega (arith, next_count, span-le s l m h more)
 
   pub span_put : (b c y : List ℕ) (at u : ℕ) → Sized s → at + entry_size * r ≤ length b
-      → c ≡ patch b (at + entry_size * q) (bytes_of (span_of s l m)) → u + length (open_of (m + 1) (get_or s (m + 1) d)) ≡ q
-      → y ≡ patch c (at + entry_size * u) (bytes_of (open_of (m + 1) (get_or s (m + 1) d)))
-      → (u + length (span_of s l (m + 1)) ≡ r) × (y ≡ patch b (at + entry_size * u) (bytes_of (span_of s l (m + 1))))
+      → c ≡ patch b (at + entry_size * q) (bytes_of (span_of s l (m - 1))) → u + length (open_of m (get_or s m d)) ≡ q
+      → y ≡ patch c (at + entry_size * u) (bytes_of (open_of m (get_or s m d)))
+      → (u + length (span_of s l m) ≡ r) × (y ≡ patch b (at + entry_size * u) (bytes_of (span_of s l m)))
   span_put b c y at u sz f ec eu ey =
-      let o = open_of (m + 1) (get_or s (m + 1) d) in
+      let o = open_of m (get_or s m d) in
       let lo : Whole o =
-      whole-open (m + 1) (get_or s (m + 1) d) (ap (λ (x : Side). length x.label)
-      (get_or_any s (m + 1) d no_side (omega arith)) ∙ sz (m + 1)) in
+      whole-open m (get_or s m d) (ap (λ (x : Side). length x.label)
+      (get_or_default s m d no_side (omega arith)) ∙ sz m) in
       let v : at + entry_size * u + length (bytes_of o) ≡ at + entry_size * q = omega (arith, lo) in (
         omega (arith, next_count, eu, eq),
         ey
-            ∙ rw ec (patch_before b (bytes_of o) (bytes_of (span_of s l m)) (at + entry_size * u) (at + entry_size * q) v
+            ∙ rw ec (patch_before b (bytes_of o) (bytes_of (span_of s l (m - 1))) (at + entry_size * u) (at + entry_size * q) v
             (omega arith))
-            ∙ ap (patch b (at + entry_size * u)) (sym (bytes-append o (span_of s l m))
+            ∙ ap (patch b (at + entry_size * u)) (sym (bytes-append o (span_of s l (m - 1)))
             ∙ ap bytes_of (span_next s l m d low (omega arith))),
       )
+
+pub ruleset spans = (span_none, patch_none)

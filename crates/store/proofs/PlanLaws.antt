@@ -3,16 +3,14 @@
 use Prim.Native.Nat.{ℕ, suc, ◌+◌, ◌-◌, ◌≤◌, ◌<◌}
 use native.Mathlib.Omega.{arith}
 use mathlib.Core.Path.{◌≡◌, refl, ap, sym, ◌∙◌}
-use mathlib.Core.Logic.{◌⊎◌, inl, inr}
 use mathlib.Core.Bool.{Bool, true, false, cond}
 use mathlib.Core.List.{List, [], ◌∷◌, ◌++◌, append-nil}
-use lib.Dec.{ltb, leb}
+use lib.Dec.{ltb}
 use lib.ListN.{length}
-use borrow.Author.Tests.{lt-ltb, le-ltb, lt-leb, le-leb}
+use borrow.Author.Tests.{lt-ltb, le-ltb}
 use Rattle.skiplist.specs.Row.{Column}
 use Rattle.skiplist.specs.Length.{tallest, right_columns, down_columns}
 use Rattle.skiplist.specs.Blocks.{column, row}
-use Rattle.skiplist.proofs.Cases.{order}
 use Rattle.archive.specs.Reading.{height_at, block_at, blocks_from}
 use Rattle.archive.proofs.RecordLaws.{next_block, no_blocks}
 use Rattle.store.specs.declared.plan.Mark.{Mark}
@@ -58,6 +56,8 @@ onto_marks (d ∷ A) B = rw (onto_marks A B) (mark-column d (A ++ B))
 pub onto-mark : (A : List Column) → onto (record { level = 0; count = 0 }) A ≡ mark_of A
 onto-mark A = onto_marks A [] ∙ ap mark_of (append-nil A)
 
+pub ruleset marks = (onto-mark)
+
 -- ---- down entries, from the left
 -- how many columns of the run B are taller than the mark and all before them, and those that are counted already
 abbrev pub climbing : Mark → List Column → ℕ
@@ -84,6 +84,8 @@ climb_next b n j h m x k eh ex =
 pub climb_end : (b : List ℕ) (n j : ℕ) (m : Mark) → n ≤ j → climbing m (run_of b j n) ≡ m.count
 climb_end b n j m k = rw (run_none b j n k, no_blocks b j) (omega arith)
 
+pub ruleset climbs = (climb_next, climb_end)
+
 -- ---- the nearest column
 module _ (b : List ℕ) (h i x : ℕ) (some : 0 < i) (ex : x ≡ height_at b (i - 1)) where
   before : i ≡ suc (i - 1)
@@ -101,13 +103,4 @@ pub nearest_none : (b : List ℕ) (h i : ℕ) → i ≤ 0 → nearest b h i ≡ 
 unfolding nearest
 nearest_none b h i k = let e : i ≡ 0 = omega arith in rw e
 
--- ---- room
-pub no_fit : (room place size : ℕ) → room < place → false ≡ leb (place + size) room
-no_fit room place size h = sym (lt-leb (place + size) room (omega arith))
-
-pub fit_is : (room place size : ℕ) → place ≤ room → leb size (room - place) ≡ leb (place + size) room
-fit_is room place size h = go (order (room - place) size)
-  where
-    go : (room - place < size) ⊎ (size ≤ room - place) → leb size (room - place) ≡ leb (place + size) room
-    go (inl k) = rw (lt-leb size (room - place) k, lt-leb (place + size) room (omega arith))
-    go (inr k) = rw (le-leb size (room - place) k, le-leb (place + size) room (omega arith))
+pub ruleset nearer = (nearest_stop, nearest_on, nearest_none)

@@ -5,6 +5,7 @@ use Prim.Native.Nat.{ℕ, zero, suc, ◌+◌, ◌-◌, ◌*◌, ◌^◌, ◌≤�
 use native.Mathlib.Nat.{zero-add}
 use native.Mathlib.Omega.{arith}
 use mathlib.Core.Path.{◌≡◌, refl, ap, ap₂, sym, ◌∙◌}
+use mathlib.Core.Bool.{true}
 use mathlib.Core.List.{List, [], ◌∷◌, ◌++◌, map, append_assoc}
 use lib.ListN.{length, take, drop, get_or, length-append, length-map}
 use borrow.Author.Tests.{ne_eqb}
@@ -31,17 +32,17 @@ use Rattle.skiplist.proofs.WayLaws.{root-rank, way_found, way-length}
 use Rattle.labels.specs.declared.Side as code
 use Rattle.labels.specs.CodeSides.{to_side, no_side, leaf_of, node_of, coded, vacant}
 use Rattle.labels.proofs.CodeLaws.{code_side}
-use Rattle.archive.specs.declared.Layout.{Layout}
-use Rattle.archive.specs.Reading.{tag_at, blocks_from, blocks_of}
+use Rattle.archive.specs.Reading.{count_of, tag_at, blocks_from, blocks_of, sound}
 use Rattle.archive.proofs.SoundLaws.{sound_is}
 use Rattle.archive.proofs.RecordLaws.{length-blocks, take-blocks, drop-blocks}
 use Rattle.archive.proofs.ImageLaws.{sound_row}
 use Rattle.proofbytes.specs.Layout.{header_size, entry_size, proof_size}
 use Rattle.proofbytes.specs.Writing.{header_bytes, entries_bytes, label_field, stop_fields, proof_bytes}
 use Rattle.store.specs.Answers.{path_at, entries_at, proof_at}
-use Rattle.store.specs.Passes.{Opened, slots_of, item_at, run_of, count_at, bytes_of, rights_at, tail_at, entries_of}
-use Rattle.store.proofs.SlotLaws.{get_or_any, tells}
-use Rattle.store.proofs.RunLaws.{count_is, few, run_low}
+use Rattle.store.specs.Passes.{slots_of, item_at, run_of, count_at, bytes_of, rights_at, tail_at, entries_of}
+use Rattle.std.proofs.lemmas.List.{get_or_default}
+use Rattle.store.proofs.SlotLaws.{tells}
+use Rattle.store.proofs.RunLaws.{few, run_low}
 
 -- ---- the code's sides as the model's
 to_sides : (q : List (Entry Tree)) (c : Item) (r : Tree) → rank (plug trees q (leaf c r)) < 2 ^ 64
@@ -95,9 +96,9 @@ last-item b i zero m c e em = let f : m ≡ i = omega arith in e ∙ rw f
 last-item b i (suc k) m c e em = last-item b (suc i) k m (block_item (tag_at b i)) refl (omega arith)
 
 -- ---- the path of a sound image
-module _ (b : List ℕ) (x : Layout) (o : Opened b x) (p : ℕ) (in_row : p ≤ x.count) where
+module _ (b : List ℕ) (good : sound b ≡ true) (p : ℕ) (in_row : p ≤ count_of b) where
   n : ℕ
-  n = x.count
+  n = count_of b
 
   bs : List Block
   bs = blocks_from b 0 n
@@ -110,42 +111,42 @@ module _ (b : List ℕ) (x : Layout) (o : Opened b x) (p : ℕ) (in_row : p ≤ 
 
   blocks_are : blocks_of b ≡ bs
   unfolding bs n
-  blocks_are = ap (blocks_from b 0) (sym (count_is b x o))
+  blocks_are = refl
 
   sound_blocks : AllSound bs
   unfolding bs n
-  sound_blocks = rw blocks_are at (sound_row b (sound_is b o.good)).sound
+  sound_blocks = rw blocks_are at (sound_row b (sound_is b good)).sound
 
   row_before : row (take p bs) ≡ A
   unfolding A bs n
-  row_before = let z : p - 0 ≡ p = omega arith in ap row (take-blocks b 0 p x.count in_row) ∙ rw z
+  row_before = let z : p - 0 ≡ p = omega arith in ap row (take-blocks b 0 p (count_of b) in_row) ∙ rw z
 
   row_after : row (drop p bs) ≡ B
   unfolding B bs n
-  row_after = ap row (drop-blocks b 0 p x.count in_row) ∙ rw (zero-add p)
+  row_after = ap row (drop-blocks b 0 p (count_of b) in_row) ∙ rw (zero-add p)
 
   low_before : AtMost most_height A
   unfolding A
-  low_before = run_low b x o 0 p (omega arith) in_row
+  low_before = run_low b good 0 p (omega arith) in_row
 
   low_after : AtMost most_height B
   unfolding B n
-  low_after = run_low b x o p x.count in_row (omega arith)
+  low_after = run_low b good p (count_of b) in_row (omega arith)
 
   within : p ≤ length bs
   unfolding bs n
-  within = rw (length-blocks b 0 x.count) in_row
+  within = rw (length-blocks b 0 (count_of b)) in_row
 
   found : path_at b p ≡ place head A B
   unfolding path_at
   found = rw blocks_are (way_found p bs sound_blocks within ∙ rw (row_before, row_after))
 
   -- THE COUNT from heights is the path's
-  pub counted : entries_at b p ≡ count_at b x.count p
+  pub counted : entries_at b p ≡ count_at b (count_of b) p
   unfolding path_at A B n
   counted = rw blocks_are (way-length p bs sound_blocks within ∙ rw (row_before, row_after))
 
-  entries_are : entries_of b x.count p ≡ map (map_entry (side_of coded)) (entries_to head A B)
+  entries_are : entries_of b (count_of b) p ≡ map (map_entry (side_of coded)) (entries_to head A B)
   unfolding tail_at rights_at A B n
   entries_are =
       rw (slots-open coded vacant tells most_height B low_after, downs_side coded B)
@@ -153,7 +154,7 @@ module _ (b : List ℕ) (x : Layout) (o : Opened b x) (p : ℕ) (in_row : p ≤ 
       ∙ ap (map (map_entry (side_of coded))) (sym (path_merge most_height head A B low_before low_after)))
 
   -- so many entries are written
-  pub entries-count : length (entries_of b x.count p) ≡ entries_at b p
+  pub entries-count : length (entries_of b (count_of b) p) ≡ entries_at b p
   entries-count =
       ap length entries_are
       ∙ length-map (entries_to head A B) (map_entry (side_of coded))
@@ -165,15 +166,15 @@ module _ (b : List ℕ) (x : Layout) (o : Opened b x) (p : ℕ) (in_row : p ≤ 
       let all : A ++ B ≡ row bs = rw (← row_before, ← row_after) (row_cut p bs) in
       let e : plug trees (entries_to head A B) (leaf (last_of head A) (stop_side trees B)) ≡ root bs =
       place-whole head A B ∙ ap (tree head) all in
-      rw e (omega (arith, root-rank bs, length-blocks b 0 x.count, few b x o))
+      rw e (omega (arith, root-rank bs, length-blocks b 0 (count_of b), few b good))
 
-  bytes_are : bytes_of (entries_of b x.count p) ≡ entries_bytes
+  bytes_are : bytes_of (entries_of b (count_of b) p) ≡ entries_bytes
       (map (map_entry (side_of (sides sha256))) (entries_to head A B))
   bytes_are = ap bytes_of entries_are ∙ ap entries_bytes (to_sides (entries_to head A B) (last_of head A)
       (stop_side trees B) ranked)
 
   -- the path, its sides as the code has them, and its stop
-  pub entries_found : (path_at b p).entries ≡ entries_to head (run_of b 0 p) (run_of b p x.count)
+  pub entries_found : (path_at b p).entries ≡ entries_to head (run_of b 0 p) (run_of b p (count_of b))
   unfolding A B n
   entries_found = ap (λ (z : Place Tree). z.entries) found
 
@@ -181,7 +182,7 @@ module _ (b : List ℕ) (x : Layout) (o : Opened b x) (p : ℕ) (in_row : p ≤ 
       ≡ map (map_entry (side_of (sides sha256))) (path_at b p).entries
   labels_found = rw found (to_sides (entries_to head A B) (last_of head A) (stop_side trees B) ranked)
 
-  pub stop_found : (t : code.Side) → t ≡ stop_side coded (run_of b p x.count)
+  pub stop_found : (t : code.Side) → t ≡ stop_side coded (run_of b p (count_of b))
       → stop_fields (item_at b p).own (shown (item_at b p)) t.rank t.label
       ≡ stop_fields (path_at b p).item.own (shown (path_at b p).item) (side_of (sides sha256) (path_at b p).side).rank
       (label_field (side_of (sides sha256) (path_at b p).side))
@@ -201,14 +202,14 @@ module _ (b : List ℕ) (x : Layout) (o : Opened b x) (p : ℕ) (in_row : p ≤ 
   -- THE BYTES: header, entries and stop as the code writes them
   pub proof_is : (k own : ℕ) (tag : List ℕ) (s : List code.Side) (d : code.Side) → k ≡ entries_at b p → own
       ≡ (item_at b p).own
-      → tag ≡ shown (item_at b p) → s ≡ slots_of (run_of b p x.count)
-      → header_bytes k ++ (bytes_of (entries_of b x.count p) ++ stop_fields own tag (get_or s 0 d).rank
+      → tag ≡ shown (item_at b p) → s ≡ slots_of (run_of b p (count_of b))
+      → header_bytes k ++ (bytes_of (entries_of b (count_of b) p) ++ stop_fields own tag (get_or s 0 d).rank
       (get_or s 0 d).label) ≡ proof_at b p
   unfolding proof_bytes A B n
   proof_is k own tag s d ek eo et es =
       let l : length s ≡ suc most_height = ap length es ∙ slots-length coded vacant tells most_height B in
       let e₀ : get_or s 0 d ≡ stop_side coded B =
-      get_or_any s 0 d no_side (omega (arith, l)) ∙ rw es (slots-stop coded vacant tells most_height B low_after) in
+      get_or_default s 0 d no_side (omega (arith, l)) ∙ rw es (slots-stop coded vacant tells most_height B low_after) in
       let kk : length (map (map_entry (side_of (sides sha256))) (entries_to head A B)) ≡ k =
       length-map (entries_to head A B) (map_entry (side_of (sides sha256)))
       ∙ sym (ek ∙ ap (λ (y : Place Tree). length y.entries) found) in

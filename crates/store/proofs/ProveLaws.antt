@@ -2,6 +2,7 @@
 -- is written.
 -- Assumes nothing.
 use native.Mathlib.Omega.{arith}
+use Rattle.std.specs.Prelude.{Ok, is_ok}
 use Prim.Native.Nat.{ℕ, ◌+◌, ◌≤◌, ◌<◌}
 use mathlib.Core.Path.{◌≡◌, sym, ap, ◌∙◌}
 use mathlib.Core.Bool.{true, false}
@@ -11,8 +12,6 @@ use lib.ListN.{length}
 use borrow.Author.Tests.{lt-ltb, le-ltb, leb-true, leb-false, ltb-false, not-false}
 use Rattle.octets.specs.Runs.{patch}
 use Rattle.refusals.specs.declared.Refusal.TheVariants.{BadImage, BadPosition, TooDeep, NoRoom}
-use Rattle.refusals.specs.declared.Verdict.TheVariants.{Done}
-use Rattle.refusals.specs.Order.{is_done}
 use Rattle.refusals.proofs.OrderLaws.{done_is, done-none, done_settled, refused-settled}
 use Rattle.archive.specs.declared.Layout.{Layout}
 use Rattle.archive.specs.Reading.{layout_of, count_of, sound}
@@ -50,7 +49,7 @@ module _ (b : List ℕ) (p room at : ℕ) where
             )
 
         pub proof_planned : leb (at + proof_size k) room ≡ true
-            → ◌≡◌ {A = Proved} (record { verdict = Done; length = proof_size k; entries = k }) (prove_of b p room at)
+            → ◌≡◌ {A = Proved} (record { verdict = Ok tt; length = proof_size k; entries = k }) (prove_of b p room at)
         unfolding prove_of prove_verdict
         proof_planned h =
             rw (
@@ -70,10 +69,10 @@ module _ (b : List ℕ) (p room at : ℕ) where
     pub fits : at + proof_size (entries_at b p) ≤ room
     pub entries : (prove_of b p room at).entries ≡ entries_at b p
 
-  pub planned : (t : Proved) → t ≡ prove_of b p room at → is_done t.verdict ≡ true → Planned
+  pub planned : (t : Proved) → t ≡ prove_of b p room at → is_ok t.verdict ≡ true → Planned
   unfolding prove_of prove_verdict
   planned t e d =
-      let v = done_is (prove_verdict b p room at) (sym (ap (λ (q : Proved). is_done q.verdict) e) ∙ d) in
+      let v = done_is (prove_verdict b p room at) (sym (ap (λ (q : Proved). is_ok q.verdict) e) ∙ d) in
       let n = done-none (prove_rules b p room at) v in
       record {
         good = not-false (sound b) n.0;
@@ -92,7 +91,7 @@ past_the_end b p room at x s e h =
 -- ---- the pledge
 pub prove_done : (b : List ℕ) (p : ℕ) (lent : List ℕ) (at : ℕ) (t : Proved) (after : List ℕ) → t
     ≡ prove_of b p (length lent) at
-    → is_done t.verdict ≡ true → after ≡ patch lent at (proof_at b p) → Proves b p lent at t after
+    → is_ok t.verdict ≡ true → after ≡ patch lent at (proof_at b p) → Proves b p lent at t after
 unfolding prove_of buffer_after
 prove_done b p lent at t after e d ea =
     record {
@@ -101,11 +100,11 @@ prove_done b p lent at t after e d ea =
       entries = ap (λ (q : Proved). q.entries) e;
       buffer = ea
           ∙ sym (done_settled (prove_verdict b p (length lent) at) (patch lent at (proof_at b p)) lent
-          (sym (ap (λ (q : Proved). is_done q.verdict) e) ∙ d));
+          (sym (ap (λ (q : Proved). is_ok q.verdict) e) ∙ d));
     }
 
 pub prove_refused : (b : List ℕ) (p : ℕ) (lent : List ℕ) (at : ℕ) (t : Proved) → t ≡ prove_of b p (length lent) at
-    → is_done t.verdict ≡ false → Proves b p lent at t lent
+    → is_ok t.verdict ≡ false → Proves b p lent at t lent
 unfolding prove_of buffer_after
 prove_refused b p lent at t e d =
     record {
@@ -113,5 +112,5 @@ prove_refused b p lent at t e d =
       bytes = ap (λ (q : Proved). q.length) e;
       entries = ap (λ (q : Proved). q.entries) e;
       buffer = sym (refused-settled (prove_verdict b p (length lent) at) (patch lent at (proof_at b p)) lent
-          (sym (ap (λ (q : Proved). is_done q.verdict) e) ∙ d));
+          (sym (ap (λ (q : Proved). is_ok q.verdict) e) ∙ d));
     }

@@ -1,5 +1,5 @@
--- Columns of an image whose header has been read: their records are there, their heights are low, and one pass over
--- them from the right gives their slots and their tree.
+-- Columns of a sound image: their heights are low, and one pass over them from the right gives their slots and their
+-- tree.
 -- Assumes nothing.
 use Prim.Native.Nat.{ℕ, zero, suc, ◌+◌, ◌-◌, ◌≤◌, ◌<◌}
 use native.Mathlib.Omega.{arith}
@@ -16,54 +16,30 @@ use Rattle.skiplist.specs.Blocks as model
 use Rattle.skiplist.proofs.SlotLaws.{slots-length, slots-root}
 use Rattle.labels.specs.declared.Side.{Side}
 use Rattle.labels.specs.CodeSides.{no_side, leaf_of, coded, vacant}
-use Rattle.archive.specs.declared.Layout.{Layout}
-use Rattle.archive.specs.Form.{image_bytes}
-use Rattle.archive.specs.Reading.{layout_of, count_of, height_at, tag_at, block_at, blocks_from, blocks_of, sound}
-use Rattle.archive.proofs.SoundLaws.{sound_is, low_at, low_run}
+use Rattle.archive.specs.Reading.{count_of, height_at, tag_at, block_at, blocks_from, blocks_of, sound}
+use Rattle.archive.proofs.SoundLaws.{sound_is, low_run}
 use Rattle.archive.proofs.RecordLaws.{next_block, no_blocks}
-use Rattle.store.specs.Passes.{Opened, no_slots_of, sealed_of, with_column_of, slots_of, item_at, run_of, tree_at}
-use Rattle.store.proofs.SlotLaws.{get_or_any, tells}
+use Rattle.store.specs.Passes.{no_slots_of, sealed_of, with_column_of, slots_of, item_at, run_of, tree_at}
+use Rattle.std.proofs.lemmas.List.{get_or_default}
+use Rattle.store.proofs.SlotLaws.{tells}
 
-pub opened : (b : List ℕ) (x : Layout) → sound b ≡ true → x ≡ layout_of b → Opened b x
-opened b x s e = record { good = s; header = e }
+module _ (b : List ℕ) (good : sound b ≡ true) where
+  pub few : count_of b ≤ most_blocks
+  few = (sound_is b good).frame.few
 
-module _ (b : List ℕ) (x : Layout) (o : Opened b x) where
-  pub count_is : x.count ≡ count_of b
-  count_is = ap (λ (y : Layout). y.count) o.header
-
-  pub few : x.count ≤ most_blocks
-  few = omega (arith, count_is, (sound_is b o.good).frame.few)
-
-  pub room : image_bytes x.count ≤ length b
-  room = omega (arith, count_is, (sound_is b o.good).frame.room)
-
-  -- a record that may be read
-  pub readable : (i : ℕ) → i < x.count → (x ≡ layout_of b) × (image_bytes (i + 1) ≤ length b) × (i < 4294967296)
-  readable i h = (o.header, omega (arith, room), omega (arith, few))
-
-  pub height_low : (i : ℕ) → i < x.count → height_at b i ≤ most_height
-  height_low i h = low_at b (count_of b) i (sound_is b o.good).heights (omega (arith, count_is))
-
-  pub run_low : (i m : ℕ) → i ≤ m → m ≤ x.count → AtMost most_height (run_of b i m)
-  run_low i m h k = low_run b (count_of b) i (m - i) (sound_is b o.good).heights (omega (arith, count_is))
+  pub run_low : (i m : ℕ) → i ≤ m → m ≤ count_of b → AtMost most_height (run_of b i m)
+  run_low i m h k = low_run b (count_of b) i (m - i) (sound_is b good).heights (omega arith)
 
   -- the slots of a run, sealed over the leaf of the column before it
-  pub side_is : (i m : ℕ) (s : List Side) (t r d : Side) → i ≤ m → m ≤ x.count → s ≡ slots_of (run_of b i m)
+  pub side_is : (i m : ℕ) (s : List Side) (t r d : Side) → i ≤ m → m ≤ count_of b → s ≡ slots_of (run_of b i m)
       → t ≡ leaf_of (item_at b i) (get_or s 0 d) → r ≡ sealed_of s most_height t → r ≡ side_of coded (tree_at b i m)
   side_is i m s t r d h k es et er =
       let l : length s ≡ suc most_height = ap length es ∙ slots-length coded vacant tells most_height (run_of b i m) in
       er
-      ∙ ap (sealed_of s most_height) (et ∙ ap (leaf_of (item_at b i)) (get_or_any s 0 d no_side (omega (arith, l))))
+      ∙ ap (sealed_of s most_height) (et ∙ ap (leaf_of (item_at b i)) (get_or_default s 0 d no_side (omega (arith, l))))
       ∙ rw es (slots-root coded vacant tells most_height (item_at b i) (run_of b i m) (run_low i m h k))
 
 -- ---- items
-pub item-head : (b : List ℕ) (i : ℕ) → i ≡ 0 → item_at b i ≡ head
-item-head b i e = rw e
-
-pub item-block : (b : List ℕ) (i : ℕ) → (i ≡ 0 → ⊥) → item_at b i ≡ block_item (tag_at b (i - 1))
-item-block b zero e = absurd (e refl)
-item-block b (suc i) e = let q : suc i - 1 ≡ i = omega arith in rw q
-
 -- the tag field of column p is the tag at position p of the row
 tag_from : (b : List ℕ) (i j k : ℕ) → i < k → tag_after i (blocks_from b j k) ≡ tag_at b (j + i)
 tag_from b i j zero h = absurd (omega (arith, h))
@@ -98,3 +74,5 @@ pub columns_next : (b : List ℕ) (m j : ℕ) (s x : List Side) (h : ℕ) (t : L
     ≡ slots_of (run_of b (j - 1) m)
 unfolding slots
 columns_next b m j s x h t a k es eh et ex = ex ∙ rw (es, eh, et, run_front b j m a k)
+
+pub ruleset labelling = (columns_start, columns_next)

@@ -1,12 +1,14 @@
 -- One turn of the loops over slots, and the length of every label that slots hold.
 -- Assumes nothing.
-use Prim.Native.Nat.{ℕ, zero, suc, ◌+◌, ◌<◌}
+use Prim.Native.Nat.{ℕ, zero, suc, ◌+◌, ◌-◌, ◌<◌}
 use native.Mathlib.Omega.{arith}
 use native.Mathlib.Numerals.{add-one}
-use mathlib.Core.Path.{◌≡◌, refl, ◌∙◌}
+use mathlib.Core.Path.{◌≡◌, refl, ap, sym, ◌∙◌}
 use mathlib.Core.Bool.{Bool, true, false, cond}
-use mathlib.Core.List.{List, [], ◌∷◌}
-use lib.ListN.{length, get_or, set, replicate}
+use mathlib.Core.List.{List, [], ◌∷◌, ◌++◌}
+use lib.ListN.{length, get_or, set, drop, replicate}
+use lib.Seq.{length-take-le}
+use Rattle.std.proofs.lemmas.List.{get_or_default}
 use Rattle.sha256.proofs.Hashes.{sha256-length}
 use Rattle.skiplist.specs.Limits.{most_height, digest_bytes}
 use Rattle.skiplist.specs.Row.{Item, Column}
@@ -18,29 +20,35 @@ use Rattle.labels.specs.declared.Side.{Side}
 use Rattle.labels.specs.CodeSides.{no_side, leaf_of, node_of, coded, vacant}
 use Rattle.store.specs.Passes.{slot_of, over_of, sealed_of, shut_of, with_column_of, slots_of, Sized}
 
--- what stands past the end does not matter within
-pub get_or_any : {A : Type 0} (s : List A) (i : ℕ) (d e : A) → i < length s → get_or s i d ≡ get_or s i e
-get_or_any [] i d e h = absurd (omega arith)
-get_or_any (x ∷ s) zero d e h = refl
-get_or_any (x ∷ s) (suc i) d e h = get_or_any s i d e (omega arith)
-
-pub sealed_next : (s : List Side) (l : ℕ) (t x r d : Side) → l + 1 < length s → x ≡ sealed_of s l t
-    → r ≡ over_of (l + 1) x (get_or s (l + 1) d) → r ≡ sealed_of s (l + 1) t
+pub sealed_next : (s : List Side) (l : ℕ) (t x r d : Side) → 0 < l → l < length s → x ≡ sealed_of s (l - 1) t
+    → r ≡ over_of l x (get_or s l d) → r ≡ sealed_of s l t
 unfolding sealed
-sealed_next s l t x r d h ex er = er ∙ rw (get_or_any s (l + 1) d no_side h, ex, add-one)
+sealed_next s zero t x r d o h ex er = absurd (omega arith)
+sealed_next s (suc l) t x r d o h ex er =
+    let q : suc l - 1 ≡ l = omega arith in er ∙ rw (get_or_default s (suc l) d no_side h, ex, q)
 
-pub shut_first : (s x : List Side) (e : Side) → e ≡ no_side → x ≡ set s 0 e → x ≡ shut_of s 0
-unfolding shut
-shut_first s x e ee ex = ex ∙ rw ee
+set_fill : {A : Type 0} (s : List A) (n : ℕ) (e : A) → n < length s
+    → set (replicate n e ++ drop n s) n e ≡ replicate (suc n) e ++ drop (suc n) s
+set_fill [] n e h = absurd (omega arith)
+set_fill (x ∷ s) zero e h = refl
+set_fill (x ∷ s) (suc n) e h = ap (λ t. e ∷ t) (set_fill s n e (omega arith))
 
-pub shut_next : (s x : List Side) (l : ℕ) (e : Side) → e ≡ no_side → x ≡ shut_of s l → set x (l + 1) e ≡ shut_of s (l + 1)
+shut_all : (s : List Side) (h : ℕ) → h < length s → shut_of s h ≡ replicate (suc h) no_side ++ drop (suc h) s
 unfolding shut
-shut_next s x l e ee ex = rw (ee, ex, add-one)
+shut_all s zero k = set_fill s zero no_side k
+shut_all s (suc h) k = rw (shut_all s h (omega arith)) (set_fill s (suc h) no_side k)
+
+-- the first slots filled with the empty side
+pub shut_is : (s : List Side) (h : ℕ) (e : Side) (x : List Side) → h < length s → e ≡ no_side
+    → x ≡ replicate (h + 1) e → x ++ drop (h + 1) s ≡ shut_of s h
+shut_is s h e x k ee ex = rw (ex, ee, add-one) (sym (shut_all s h k))
+
+pub ruleset filled = (shut_is, length-take-le)
 
 pub with_column_is : (s x : List Side) (h : ℕ) (c : Item) (t b d : Side) → 0 < length s → x ≡ shut_of s h
     → b ≡ leaf_of c (get_or s 0 d) → t ≡ sealed_of s h b → set x h t ≡ with_column_of s h c
 unfolding with_column
-with_column_is s x h c t b d k ex eb et = rw (ex, et, eb, get_or_any s 0 d no_side k)
+with_column_is s x h c t b d k ex eb et = rw (ex, et, eb, get_or_default s 0 d no_side k)
 
 -- the test tells the empty side
 pub tells : Tells coded vacant

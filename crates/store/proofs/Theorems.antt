@@ -2,6 +2,7 @@
 -- root label (`check_row`), prove writes the bytes of document 01's path (`prove_row`), apply leaves the edited row's
 -- image (`apply_row`), and refuses with 14 exactly what comes again (`apply-again`).
 -- Assumes nothing.
+use Rattle.std.specs.Prelude.{Ok, Err}
 use Prim.Native.Nat.{ℕ, zero, suc, ◌+◌, ◌-◌, ◌≤◌}
 use native.Mathlib.Omega.{arith}
 use mathlib.Core.Path.{◌≡◌, refl, sym, ap, ◌∙◌}
@@ -13,7 +14,6 @@ use lib.ListN.{length, take, drop}
 use borrow.Author.Tests.{le-ltb}
 use Rattle.octets.specs.Runs.{patch}
 use Rattle.refusals.specs.declared.Refusal.TheVariants.{BadImage, NoRoom, Repeated}
-use Rattle.refusals.specs.declared.Verdict.TheVariants.{Done, Refused}
 use Rattle.refusals.specs.Order.{◌when◌, verdict_of}
 use Rattle.refusals.proofs.OrderLaws.{done-refused, append-done, behind}
 use Rattle.sha256.specs.Hash.{sha256}
@@ -108,10 +108,10 @@ edited-within k bs w r e =
 module _ (bs : List Block) (w : WithinLimits bs) (s : List ℕ) where
   -- CHECK answers the row's count and root label
   pub check_row : (r : Checked) → Checks (image_of bs ++ s) r
-      → (r.verdict ≡ Done) × (r.metadata.count ≡ length bs) × (r.metadata.label ≡ (metadata_of sha256 bs).label)
+      → (r.verdict ≡ Ok tt) × (r.metadata.count ≡ length bs) × (r.metadata.label ≡ (metadata_of sha256 bs).label)
   unfolding check_of check_verdict
   check_row r c =
-      let v : check_verdict (image_of bs ++ s) ≡ Done = rw (image-sound bs w s) in
+      let v : check_verdict (image_of bs ++ s) ≡ Ok tt = rw (image-sound bs w s) in
       let m : r.metadata ≡ metadata_of_side (metadata_of sha256 bs) = c.metadata
       ∙ rw (image-sound bs w s, image_read bs w s) in
       (c.verdict ∙ v, ap (λ (y : Metadata). y.count) m ∙ metadata_count sha256 bs, ap (λ (y : Metadata). y.label) m)
@@ -120,12 +120,12 @@ module _ (bs : List Block) (w : WithinLimits bs) (s : List ℕ) where
   pub prove_row : (p : ℕ) (lent : List ℕ) (at : ℕ) (r : Proved) (after : List ℕ) → p ≤ length bs
       → length (way_to p bs).entries ≤ most_entries → at + proof_size (length (way_to p bs).entries) ≤ length lent
       → Proves (image_of bs ++ s) p lent at r after
-      → (r.verdict ≡ Done) × (r.length ≡ proof_size (length (way_to p bs).entries))
+      → (r.verdict ≡ Ok tt) × (r.length ≡ proof_size (length (way_to p bs).entries))
       × (r.entries ≡ length (way_to p bs).entries)
       × (after ≡ patch lent at (proof_bytes (labelled sha256 (way_to p bs))))
   unfolding prove_of prove_verdict path_at buffer_after
   prove_row p lent at r after in_row few fits c =
-      let v : prove_verdict (image_of bs ++ s) p (length lent) at ≡ Done =
+      let v : prove_verdict (image_of bs ++ s) p (length lent) at ≡ Ok tt =
       rw (
         image-sound bs w s,
         image_read bs w s,
@@ -140,7 +140,7 @@ module _ (bs : List Block) (w : WithinLimits bs) (s : List ℕ) where
         c.buffer ∙ rw (v, image_read bs w s),
       )
 
-  in_range-admitted : (k : Command) → InRange (meaning k) (length bs) → Done ≡ admitted_of k (count_of (image_of bs ++ s))
+  in_range-admitted : (k : Command) → InRange (meaning k) (length bs) → Ok tt ≡ admitted_of k (count_of (image_of bs ++ s))
   unfolding admitted_of
   in_range-admitted k r =
       rw (image-count bs w s)
@@ -150,13 +150,13 @@ module _ (bs : List Block) (w : WithinLimits bs) (s : List ℕ) where
   pub apply_row : (k : Command) (r : Applied) (after : List ℕ) → InRange (meaning k) (length bs) → length k.tag
       ≡ digest_bytes → (Again bs k → ⊥)
       → image_bytes (length (edited (meaning k) bs)) ≤ length (image_of bs ++ s) → Applies (image_of bs ++ s) k r after
-      → (r.verdict ≡ Done) × (r.count ≡ length (edited (meaning k) bs))
+      → (r.verdict ≡ Ok tt) × (r.count ≡ length (edited (meaning k) bs))
       × (after ≡ image_of (edited (meaning k) bs) ++ spare_after (length bs) (length (edited (meaning k) bs)) s)
   unfolding apply_of image_after
   apply_row k r after in_range tag fresh fits c =
       let b = image_of bs ++ s in
-      let v : apply_verdict b k ≡ Done =
-      verdict_is b k (image-sound bs w s) Done (in_range-admitted k in_range)
+      let v : apply_verdict b k ≡ Ok tt =
+      verdict_is b k (image-sound bs w s) (Ok tt) (in_range-admitted k in_range)
       ∙ rw (image_read bs w s, not_again bs k in_range fresh, le-ltb (length b) (image_bytes (length (edited (meaning k) bs))) fits) in (
         c.verdict ∙ v,
         c.count ∙ rw (v, image_read bs w s),
@@ -165,7 +165,7 @@ module _ (bs : List Block) (w : WithinLimits bs) (s : List ℕ) where
       )
 
   -- 14 EXACTLY FOR WHAT COMES AGAIN
-  again_only : (k : Command) → apply_verdict (image_of bs ++ s) k ≡ Refused Repeated → Again bs k
+  again_only : (k : Command) → apply_verdict (image_of bs ++ s) k ≡ Err Repeated → Again bs k
   unfolding apply_verdict
   again_only k e =
       let b = image_of bs ++ s in
@@ -176,16 +176,16 @@ module _ (bs : List Block) (w : WithinLimits bs) (s : List ℕ) where
       (rw (image_read bs w s) at (repeated (repeats (meaning k) (blocks_of b))
       (ltb (length b) (image_bytes (length (row_after b k)))) x.1))
     where
-      repeated : (x y : Bool) → verdict_of ((Repeated when x) ∷ (NoRoom when y) ∷ []) ≡ Refused Repeated → x ≡ true
+      repeated : (x y : Bool) → verdict_of ((Repeated when x) ∷ (NoRoom when y) ∷ []) ≡ Err Repeated → x ≡ true
       repeated true y f = refl
       repeated false true f = never cc
       repeated false false f = done-refused f
 
-  again_given : (k : Command) → Again bs k → apply_verdict (image_of bs ++ s) k ≡ Refused Repeated
+  again_given : (k : Command) → Again bs k → apply_verdict (image_of bs ++ s) k ≡ Err Repeated
   again_given k a =
       let r = again-repeats bs k a in
-      verdict_is (image_of bs ++ s) k (image-sound bs w s) Done (in_range-admitted k r.0) ∙ rw (image_read bs w s, r.1)
+      verdict_is (image_of bs ++ s) k (image-sound bs w s) (Ok tt) (in_range-admitted k r.0) ∙ rw (image_read bs w s, r.1)
 
-  pub apply-again : (k : Command) → ((apply_of (image_of bs ++ s) k).verdict ≡ Refused Repeated) ↔ Again bs k
+  pub apply-again : (k : Command) → ((apply_of (image_of bs ++ s) k).verdict ≡ Err Repeated) ↔ Again bs k
   unfolding apply_of
   apply-again k = (again_only k, again_given k)

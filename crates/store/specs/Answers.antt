@@ -6,8 +6,7 @@
 use Rattle.std.specs.Prelude.{ℕ, ◌+◌, not, List, [], ◌∷◌, ◌++◌, ltb, length}
 use Rattle.octets.specs.Runs.{patch}
 use Rattle.refusals.specs.declared.Refusal.TheVariants.{BadImage, BadPosition, NoRoom, TooDeep, Repeated}
-use Rattle.refusals.specs.declared.Verdict.{Verdict}
-use Rattle.refusals.specs.Order.{Rule, ◌when◌, verdict_of, settled}
+use Rattle.refusals.specs.Order.{Rule, ◌when◌, verdict_of, settled, Verdict}
 use Rattle.sha256.specs.Hash.{sha256}
 use Rattle.skiplist.specs.Tree.{Tree}
 use Rattle.skiplist.specs.Entry.{Place}

@@ -1,11 +1,10 @@
 -- What the store's private functions compute, over the code's sides: no pledge cites these. Columns of the image b are
 -- counted from the head, which is column 0.
 -- Assumes nothing.
-use Rattle.std.specs.Prelude.{ℕ, zero, suc, ◌+◌, ◌-◌, ◌*◌, ◌≤◌, ◌<◌, ◌≡◌, true, cond, List, [], ◌∷◌, ◌++◌, map, ltb, length}
+use Rattle.refusals.specs.Order.{Verdict}
+use Rattle.std.specs.Prelude.{ℕ, zero, suc, ◌+◌, ◌-◌, ◌*◌, ◌≤◌, ◌<◌, ◌≡◌, true, cond, List, [], ◌∷◌, ◌++◌, map, ltb, length, Result, Ok, Err}
 use Rattle.octets.specs.Runs.{patch}
 use Rattle.refusals.specs.declared.Refusal.{Refusal}
-use Rattle.refusals.specs.declared.Verdict.{Verdict}
-use Rattle.refusals.specs.declared.Verdict.TheVariants.{Refused}
 use Rattle.skiplist.specs.Limits.{most_height, digest_bytes}
 use Rattle.skiplist.specs.Row.{Item, Column}
 use Rattle.skiplist.specs.Tree.{Tree, tree}
@@ -100,11 +99,20 @@ Anchors b a p = (j : ℕ) → 0 < a → a ≤ j → j < p → height_at b j ≤ 
 
 -- a refused proof
 abbrev pub refused_proof : Refusal → Proved
-refused_proof r = record { verdict = Refused r; length = 0; entries = 0 }
+refused_proof r = record { verdict = Err r; length = 0; entries = 0 }
 
 -- a refused edit
 abbrev pub refused_edit : Verdict → Applied
 refused_edit v = record { verdict = v; count = 0 }
+
+-- what is answered, by what the steps up to the first refusal that is due come to
+abbrev pub proved_or : Result Proved Refusal → Proved
+proved_or (Ok t) = t
+proved_or (Err r) = refused_proof r
+
+abbrev pub applied_or : Result Applied Refusal → Applied
+applied_or (Ok t) = t
+applied_or (Err r) = refused_edit (Err r)
 
 -- the count that an operation leaves of n blocks
 abbrev pub count_after : Operation → ℕ → ℕ

@@ -2,14 +2,13 @@
 // it writes a byte.
 #![tactic(auto)]
 
-ghost use Rattle.std.specs.Prelude.{◌≡◌};
-ghost use Rattle.refusals.specs.declared.Verdict.TheVariants.{Done};
+ghost use Rattle.std.specs.Prelude.{◌≡◌, Ok};
 ghost use Rattle.archive.specs.Writing.{rewritten};
 ghost use Rattle.store.specs.Answers.{apply_verdict, row_after};
 ghost use Rattle.store.specs.Passes.{Opened};
 ghost use Rattle.store.specs.Pledges.{Checks, Proves, Applies};
 
-use archive::Layout;
+use archive::{Image, Layout};
 use commands::{Command, Metadata, Operation};
 use refusals::{Refusal, Verdict};
 
@@ -18,6 +17,7 @@ pub mod plan;
 pub mod runs;
 mod slots;
 
+// Structs and no Results: the pledges say what stands in each field after a refusal too.
 #[derive(Clone, Copy)]
 pub struct Checked {
     pub verdict: Verdict,
@@ -41,26 +41,24 @@ pub struct Applied {
 pub fn check(image: &[u8]) -> Checked
     ensures { Checks image.now result }
 {
-    if archive::is_sound(image) {
-        let x = archive::header(image);
-        let root = runs::side(image, x, 0, x.count);
-        let label = root.label;
-        let m = Metadata {
-            count: root.rank,
-            label: label,
-        };
+    let Some(x) = Image::new(image) else {
         return Checked {
-            verdict: Verdict::Done,
-            metadata: m,
+            verdict: Err(Refusal::BadImage),
+            metadata: Metadata {
+                count: 0,
+                label: [0; 32],
+            },
         };
-    }
-    let none = Metadata {
-        count: 0,
-        label: [0u8; 32],
     };
+    let root = runs::side(x, 0, x.count());
+    // Named first: a literal takes no array straight from another value's field.
+    let label = root.label;
     Checked {
-        verdict: Verdict::Refused(Refusal::BadImage),
-        metadata: none,
+        verdict: Ok(()),
+        metadata: Metadata {
+            count: root.rank,
+            label,
+        },
     }
 }
 
@@ -69,12 +67,9 @@ pub fn prove(image: &[u8], position: u64, buffer: &mut [u8], place: u64) -> Prov
     ensures { Proves image.now position buffer.old place result buffer.new }
 {
     let t = plan::proof(image, position, buffer.len() as u64, place);
-    let v = t.verdict;
-    if refusals::is_done(v) {
-        let x = archive::header(image);
+    if t.verdict.is_ok() {
         path::put_proof(
-            image,
-            x,
+            Image::known(image),
             position as usize,
             buffer,
             place as usize,
@@ -84,30 +79,17 @@ pub fn prove(image: &[u8], position: u64, buffer: &mut [u8], place: u64) -> Prov
     t
 }
 
-// The edit of an image that is planned.
+// The edit of an image that is planned. It writes the bytes, so it holds no `Image`.
 fn edit(image: &mut [u8], x: Layout, k: Command)
-    requires { Opened image.old x × (apply_verdict image.old k ≡ Done) }
+    requires { Opened image.old x × (apply_verdict image.old k ≡ Ok tt) }
     ensures { image.new ≡ rewritten image.old (row_after image.old k) }
 {
-    let o = k.operation;
     let p = k.position as usize;
-    let tag = k.tag;
-    match o {
-        Operation::Read => {
-            return;
-        }
-        Operation::Replace => {
-            archive::replace(image, x, p, tag);
-            return;
-        }
-        Operation::Insert => {
-            archive::insert(image, x, p, k.height, tag);
-            return;
-        }
-        Operation::Delete => {
-            archive::delete(image, x, p);
-            return;
-        }
+    match k.operation {
+        Operation::Read => {}
+        Operation::Replace => archive::replace(image, x, p, k.tag),
+        Operation::Insert => archive::insert(image, x, p, k.height, k.tag),
+        Operation::Delete => archive::delete(image, x, p),
     }
 }
 
@@ -116,8 +98,7 @@ pub fn apply(image: &mut [u8], k: Command) -> Applied
     ensures { Applies image.old k result image.new }
 {
     let t = plan::edit(image, k);
-    let v = t.verdict;
-    if refusals::is_done(v) {
+    if t.verdict.is_ok() {
         let x = archive::header(image);
         edit(image, x, k);
     }

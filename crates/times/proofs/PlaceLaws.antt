@@ -7,7 +7,7 @@ use mathlib.Core.Path.{◌≡◌, refl, sym, ap, ◌∙◌}
 use mathlib.Core.Bool.{Bool, true, false, cond}
 use mathlib.Core.List.{List, [], ◌∷◌}
 use lib.Dec.{ltb}
-use lib.ListN.{length, get_or, drop}
+use lib.ListN.{length, get_or}
 use borrow.Author.Tests.{lt-ltb, le-ltb, ltb-true, ltb-false}
 use Rattle.times.specs.Times.{RiseFrom, put_after, place_for}
 
@@ -81,20 +81,11 @@ put_rises b (u ∷ ts) t r h = go (ltb t u) refl (put_rises u ts t r.1)
     go true e rest = let l = ltb-true t u e in (h, (omega (arith, l), r.1))
     go false e rest = (r.0, rest (ltb-false t u e))
 
--- THE LOOP
-pub place_next : (ts : List ℕ) (t i : ℕ) → i < length ts → get_or ts i 0 ≤ t
-    → place_for (drop i ts) t ≡ suc (place_for (drop (suc i) ts) t)
-place_next [] t i h l = absurd (omega (arith, h))
-place_next (u ∷ ts) t zero h l = not_later u ts t l
-place_next (u ∷ ts) t (suc i) h l = place_next ts t i (omega (arith, h)) l
-
-pub place_here : (ts : List ℕ) (t i : ℕ) → i < length ts → t < get_or ts i 0 → place_for (drop i ts) t ≡ 0
-place_here [] t i h l = absurd (omega (arith, h))
-place_here (u ∷ ts) t zero h l = later_first u ts t l
-place_here (u ∷ ts) t (suc i) h l = place_here ts t i (omega (arith, h)) l
-
-pub place_end : (ts : List ℕ) (t i : ℕ) → i ≡ length ts → place_for (drop i ts) t ≡ 0
-place_end [] t zero h = refl
-place_end [] t (suc i) h = absurd (omega (arith, h))
-place_end (u ∷ ts) t zero h = absurd (omega (arith, h))
-place_end (u ∷ ts) t (suc i) h = place_end ts t i (omega (arith, h))
+-- THE FIRST LATER ONE
+pub place_first : (ts : List ℕ) (t p : ℕ) → p ≤ length ts → ((k : ℕ) → k < p → get_or ts k 0 ≤ t) → (p < length ts → t < get_or ts p 0)
+    → p ≡ place_for ts t
+place_first [] t p h before next = omega (arith, h)
+place_first (u ∷ ts) t zero h before next = sym (later_first u ts t (next (omega arith)))
+place_first (u ∷ ts) t (suc p) h before next =
+    ap suc (place_first ts t p (omega (arith, h)) (λ k b. before (suc k) (omega (arith, b))) (λ b. next (omega (arith, b))))
+    ∙ sym (not_later u ts t (before 0 (omega arith)))

@@ -8,12 +8,5 @@ ghost use Rattle.times.specs.Times.{place_for};
 pub fn place(times: &[u32], time: u32) -> u64
     ensures { result ≡ place_for times.now time }
 {
-    let mut i = 0;
-    while i < times.len() {
-        if time < times[i] {
-            return i as u64;
-        }
-        i += 1;
-    }
-    i as u64
+    times.iter().position(|t| time < *t).unwrap_or(times.len()) as u64
 }

@@ -9,42 +9,6 @@ use Rattle.archive.proofs.EditLaws.{delete_is}
 use borrow.Author.Rules.{rules}
 use Rattle.archive.proofs.delete.Goals as goal
 
-pub place-from-requires : goal.place-from-requires
-place-from-requires c =
-    let s = sound_is _ c.requires.0 in
-    let e = c.requires.1 in (
-      ap (λ (x : Layout). x.first) e,
-      ap (λ (x : Layout). x.size) e,
-      omega
-          (arith, s.frame.few, ap (λ (x : Layout). x.count) e),
-    )
-
-pub place-end-requires : goal.place-end-requires
-place-end-requires c =
-    let s = sound_is _ c.requires.0 in
-    let e = c.requires.1 in (
-      ap (λ (x : Layout). x.first) e,
-      ap (λ (x : Layout). x.size) e,
-      omega
-          (arith, s.frame.few, ap (λ (x : Layout). x.count) e),
-    )
-
-pub slide-requires : goal.slide-requires
-slide-requires c =
-    let s = sound_is _ c.requires.0 in
-    let e = ap (λ (x : Layout). x.count) c.requires.1 in
-    (omega (arith, s.frame.room, e), omega (arith, s.frame.room, e))
-
-pub clear-requires : goal.clear-requires
-clear-requires c =
-    let s = sound_is _ c.requires.0 in
-    omega (arith, s.frame.room, ap (λ (x : Layout). x.count) c.requires.1)
-
-pub put_count-requires : goal.put_count-requires
-put_count-requires c =
-    let s = sound_is _ c.requires.0 in
-    (omega (arith, s.frame.long), omega (arith, s.frame.few, ap (λ (x : Layout). x.count) c.requires.1))
-
 pub returns : goal.returns
 returns c =
     let e : c.args.x.count ≡ count_of c.args.b.now = ap (λ (x : Layout). x.count) c.requires.1 in

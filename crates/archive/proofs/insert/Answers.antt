@@ -13,9 +13,9 @@ use Rattle.archive.proofs.insert.Goals as goal
 pub returns : goal.returns
 returns c =
     let e : c.args.x.count ≡ count_of c.args.b.now = ap (λ (x : Layout). x.count) c.requires.1 in
-    let n : length c.args.tag ≡ 32 = c.well_formed.1.1.1.1.0.1.0.1 in
+    let n : length c.args.tag ≡ 32 = search rules in
     insert_is c.args.b.now (sound_is _ c.requires.0) c.args.p c.args.height c.args.tag
     c.slide.new.b c.copy.new.d
-    c.put_one.new.d c.put_count.new.b (omega (arith, e)) (omega (arith, e)) (search rules) n
+    c.put_number.new.d c.put_count.new.b (omega (arith, e)) (omega (arith, e)) (search rules) n
     (c.slide.ensures ∙ rw (c.place-at.ensures, c.place.ensures, e)) (c.copy.ensures ∙ rw c.place-at.ensures)
-    (c.put_one.ensures ∙ rw c.place-at.ensures) (c.put_count.ensures ∙ rw e)
+    (c.put_number.ensures ∙ rw c.place-at.ensures) (c.put_count.ensures ∙ rw e)

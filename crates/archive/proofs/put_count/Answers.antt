@@ -10,7 +10,7 @@ use Rattle.archive.proofs.put_count.Goals as goal
 pub returns : goal.returns
 returns c =
     let a = c.args in
-    c.put_four.ensures
-    ∙ rw c.put_two.ensures
+    c.put_number-2.ensures
+    ∙ rw c.put_number.ensures
     (patch_before a.b.now (be length_bytes (rest_bytes a.n)) (be count_bytes a.n) length_place count_place refl
     (omega arith))

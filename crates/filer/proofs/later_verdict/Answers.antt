@@ -1,6 +1,8 @@
 -- 14, the second proof, 16 and 15.
 -- Assumes nothing.
+use Rattle.std.specs.Prelude.{Err}
 use mathlib.Core.Path.{sym, ap, ◌∙◌}
+use Rattle.std.proofs.lemmas.Result.{err_from_is_err_and}
 use Rattle.skiplist.specs.Commands.{repeats_at}
 use Rattle.filer.specs.Filing.{timed}
 use Rattle.filer.proofs.Answers.{comes_again, second-refused, second_passed, both_shown}
@@ -9,29 +11,31 @@ use Rattle.filer.proofs.later_verdict.Goals as goal
 pub returns-then-repeated : goal.returns-then-repeated
 returns-then-repeated c =
     let a = c.args in
-    comes_again a.m a.f.position a.f.time a.tag (timed a.f.left a.left.now) (timed a.f.right a.right.now)
-    a.first.now a.second.now
-    (c.repeated.ensures ∙ ap (repeats_at a.f.position a.tag) c.shown.ensures)
+    comes_again a.m a.p a.time a.tag (timed a.left.time a.left.readings.now) (timed a.right.time a.right.readings.now)
+    a.left.proof.now a.right.proof.now
+    (c.repeated.ensures ∙ ap (repeats_at a.p a.tag) c.shown.ensures)
     c.if-repeated.true
 
 pub neighbours_verdict-requires : goal.neighbours_verdict-requires
 neighbours_verdict-requires c =
     let a = c.args in
-    both_shown a.m a.f.position a.left.now a.right.now a.first.now a.second.now c.requires.1 c.requires.2
-    (sym c.second_verdict-v.ensures ∙ c.in-Done.is)
+    both_shown a.m a.p a.left.readings.now a.right.readings.now a.left.proof.now a.right.proof.now c.requires.1 c.requires.2
+    (sym c.second_verdict.ensures ∙ c.in_ok-second_verdict.was)
 
-pub returns-in-Refused : goal.returns-in-Refused
-returns-in-Refused c =
+pub returns-in_err-second_verdict : goal.returns-in_err-second_verdict
+returns-in_err-second_verdict c =
     let a = c.args in
-    second-refused a.m a.f.position a.f.time a.tag (timed a.f.left a.left.now) (timed a.f.right a.right.now)
-    a.first.now a.second.now
-    (c.repeated.ensures ∙ ap (repeats_at a.f.position a.tag) c.shown.ensures)
-    c.if-repeated.false c.second_verdict-v.ensures c.in-Refused.is
+    let p = err_from_is_err_and c.from_residual.result c.from_residual.ensures.1 in
+    p.1 ∙ ap Err p.2
+    ∙ second-refused a.m a.p a.time a.tag (timed a.left.time a.left.readings.now) (timed a.right.time a.right.readings.now)
+    a.left.proof.now a.right.proof.now
+    (c.repeated.ensures ∙ ap (repeats_at a.p a.tag) c.shown.ensures)
+    c.if-repeated.false c.second_verdict.ensures c.in_err-second_verdict.was
 
-pub returns-in-Done : goal.returns-in-Done
-returns-in-Done c =
+pub returns : goal.returns
+returns c =
     let a = c.args in
-    second_passed a.m a.f.position a.f.time a.tag (timed a.f.left a.left.now) (timed a.f.right a.right.now)
-    a.first.now a.second.now
-    (c.repeated.ensures ∙ ap (repeats_at a.f.position a.tag) c.shown.ensures)
-    c.if-repeated.false c.second_verdict-v.ensures c.in-Done.is c.neighbours_verdict.ensures
+    second_passed a.m a.p a.time a.tag (timed a.left.time a.left.readings.now) (timed a.right.time a.right.readings.now)
+    a.left.proof.now a.right.proof.now
+    (c.repeated.ensures ∙ ap (repeats_at a.p a.tag) c.shown.ensures)
+    c.if-repeated.false c.second_verdict.ensures c.in_ok-second_verdict.was c.neighbours_verdict.ensures

@@ -18,8 +18,8 @@ next-requires c =
     let s = c.args.s.now in
     subst (λ x. end_of x + 2 ≤ length s) (sym c.requires.2) (stands_next s (c.args.i - 1) c.args.i (omega (arith, c.if-i-eq0.false)) c.requires.0)
 
-pub returns : goal.returns
-returns c =
+pub returns-else-i-eq0 : goal.returns-else-i-eq0
+returns-else-i-eq0 c =
     let s = c.args.s.now in
     let n : c.args.i - 1 + 1 ≡ c.args.i = omega (arith, c.if-i-eq0.false) in
     (piece-next s (c.args.i - 1) c.requires.2 c.next.ensures.0 ∙ ap (piece_of s) n, c.next.ensures.2)

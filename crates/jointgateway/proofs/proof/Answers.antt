@@ -3,7 +3,7 @@
 use native.Mathlib.Omega.{arith}
 use lib.ListN.{length, take, drop}
 use mathlib.Core.Path.{◌≡◌, sym, ap, subst, ◌∙◌}
-use Prim.Native.Nat.{ℕ, ◌+◌, ◌-◌, ◌*◌, ◌≤◌}
+use Prim.Native.Nat.{◌+◌, ◌-◌, ◌*◌, ◌≤◌}
 use Rattle.octets.specs.Runs.{part}
 use Rattle.jointbytes.specs.Reading.{end_of}
 use Rattle.jointbytes.proofs.StandLaws.{stands-end}
@@ -12,6 +12,7 @@ use Rattle.jointgateway.specs.Joint.{proof_at}
 use Rattle.jointgateway.specs.Working.{KeptIn}
 use Rattle.jointgateway.proofs.SpellLaws.{spelled_out, too_long, length-proof, count_is, before_size, kept_in}
 use Rattle.jointgateway.proofs.proof.Goals as goal
+use Rattle.skiplist.proofs.Cases.{never}
 
 pub overflow_add-k : goal.overflow_add-k
 overflow_add-k c =
@@ -29,7 +30,7 @@ returns-then-k-gt-MOST_ENTRIES c =
     let q = c.args.q in
     let n = count_is s i {q = q} c.requires.2 c.requires.1 in
     let f = too_long s i c.args.p c.args.m c.requires.2 (omega (arith, n, c.if-k-gt-MOST_ENTRIES.true)) in
-    (c.found.ensures ∙ ap (λ x. kept_of x (proof_at s i) c.args.f) (sym f), λ e. let d = sym (ap (λ x. x.finding) c.found.ensures) ∙ e in let z : ◌≡◌ {A = ℕ} 0 1 = cc in absurd (omega arith))
+    (ap (λ x. kept_of x (proof_at s i) c.args.f) (sym f), λ e. never cc)
 
 pub spell-requires : goal.spell-requires
 spell-requires c =

@@ -5,4 +5,4 @@ use Rattle.labels.proofs.hashed.Goals as goal
 
 pub returns : goal.returns
 returns c =
-    (answered c.args.m.now _ c.digest-d.ensures c.requires).1
+    (answered c.args.m.now _ c.digest.ensures c.requires).1

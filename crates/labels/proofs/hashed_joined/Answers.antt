@@ -7,5 +7,5 @@ use Rattle.labels.proofs.hashed_joined.Goals as goal
 pub returns : goal.returns
 returns c =
     let a = c.args in
-    (answered (a.first.now ++ a.second.now) _ c.digest_joined-d.ensures
+    (answered (a.first.now ++ a.second.now) _ c.digest_joined.ensures
     (rw (length-append a.first.now a.second.now) c.requires)).1

@@ -5,5 +5,5 @@ use Rattle.labels.proofs.put_head.Goals as goal
 
 pub returns : goal.returns
 returns c =
-    head_written c.args.d.now c.put_one.new.d c.put_two.new.d c.put_four.new.d c.args.time c.args.readings c.requires.0
-    c.put_one.ensures c.put_two.ensures c.put_four.ensures
+    head_written c.args.d.now c.put_number.new.d c.put_number-2.new.d c.put_number-3.new.d c.args.time c.args.readings c.requires.0
+    c.put_number.ensures c.put_number-2.ensures c.put_number-3.ensures

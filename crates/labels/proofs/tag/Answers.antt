@@ -10,5 +10,5 @@ returns-then-readings-gt-MOST_READINGS c =
 
 pub returns : goal.returns
 returns c =
-    tagged c.args.time c.args.readings.now c.put_head.new.d c.hashed_joined-bytes.result c.if-readings-gt-MOST_READINGS.false
-    c.put_head.ensures c.hashed_joined-bytes.ensures
+    tagged c.args.time c.args.readings.now c.put_head.new.d c.hashed_joined.result c.if-readings-gt-MOST_READINGS.false
+    c.put_head.ensures c.hashed_joined.ensures

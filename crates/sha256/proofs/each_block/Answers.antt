@@ -1,28 +1,19 @@
--- `sha256::each_block` takes block after block. After i turns the state is the hash value of the first i blocks.
+-- `sha256::each_block` takes block after block: what is left of b gives, from the state, the hash value of the whole.
 -- Assumes nothing.
-use Rattle.std.proofs.Common.{refl, zero-le, arith}
-use Rattle.sha256.specs.Hash.{hashed}
-use Rattle.sha256.proofs.Hashes.{lent-length, hashed_more, hashed_whole}
+use Rattle.std.proofs.Common.{◌∙◌, arith}
+use Rattle.sha256.proofs.Hashes.{hashed_chunk, hashed_none}
 use Rattle.sha256.proofs.each_block.Goals as goal
 
-pub loop-i-init : goal.loop-i-init
-unfolding hashed
-loop-i-init c = (zero-le, refl)
-
-pub compress-next-requires : goal.compress-next-requires
-compress-next-requires c =
-    lent-length c.args.b.now c.loop-i.i c.loop-i-test.true
-
-pub loop-i-preserved : goal.loop-i-preserved
-loop-i-preserved c =
-    let a = c.args in (
-      omega arith,
-      hashed_more a.start a.b.now c.loop-i.s c.compress-next.result c.loop-i.i c.loop-i.invariant.1
-          c.compress-next.ensures,
+pub loop-block-preserved : goal.loop-block-preserved
+loop-block-preserved c =
+    let i = c.loop-block.invariant in
+    let n = c.in-Some.ensures.steps in (
+      n.0 ∙ i.0,
+      hashed_chunk c.loop-block.s c.compress-next.result c.in-Some.block.now c.next.new.self.rest.now _
+          (n.1.1 ∙ i.0) n.1.0 c.compress-next.ensures ∙ i.1,
     )
 
 pub returns : goal.returns
 returns c =
-    let a = c.args in
-    hashed_whole a.start a.b.now c.loop-i.s c.loop-i.i _ c.loop-i.invariant.0 c.loop-i-test.false
-    c.loop-i.invariant.1
+    let i = c.loop-block.invariant in
+    hashed_none c.loop-block.s c.loop-block.block-iterator.rest.now (omega (arith, c.in-None.ensures.steps.1.0, i.0)) ∙ i.1

@@ -16,21 +16,21 @@ pub bounds-t-rest : goal.bounds-t-rest
 bounds-t-rest c =
     omega (arith, copied_length c.args.m.now c.args.t.now _ c.requires.0 c.copy.ensures)
 
-pub put_four-requires : goal.put_four-requires
-put_four-requires c =
+pub put_number-requires : goal.put_number-requires
+put_number-requires c =
     let n = copied_length c.args.m.now c.args.t.now _ c.requires.0 c.copy.ensures in
     simp length-set (omega (arith, c.block_count-end.ensures))
 
 pub shape_of-t : goal.shape_of-t
 shape_of-t c =
     let n = copied_length c.args.m.now c.args.t.now _ c.requires.0 c.copy.ensures in
-    ap length c.put_four.ensures
+    ap length c.put_number.ensures
     ∙ length-patch _ (be 4 _) _
     (simp (length-set, length-be) (omega (arith, c.block_count-end.ensures)))
     ∙ simp length-set n ∙ sym (ap length c.requires.0)
 
 pub returns : goal.returns
 returns c =
-    ending_made c.args.before c.args.m.now c.args.t.now c.copy.new.d c.put_four.new.d
+    ending_made c.args.before c.args.m.now c.args.t.now c.copy.new.d c.put_number.new.d
     c.block_count-end.result c.requires.0 c.requires.1 c.requires.2 c.block_count-end.ensures c.copy.ensures
-    c.put_four.ensures
+    c.put_number.ensures

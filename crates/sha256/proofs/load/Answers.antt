@@ -14,8 +14,8 @@ loop-t-preserved c =
     let b = c.args.b.now in (
       omega arith,
       length-set c.loop-t.w c.loop-t.t _ ∙ c.loop-t.invariant.1,
-      load_more b c.loop-t.w c.loop-t.t c.four_at.result c.loop-t-test.true c.loop-t.invariant.1
-          c.loop-t.invariant.2 c.four_at.ensures.0,
+      load_more b c.loop-t.w c.loop-t.t c.number_at.result c.loop-t-test.true c.loop-t.invariant.1
+          c.loop-t.invariant.2 c.number_at.ensures.0,
     )
 
 pub returns : goal.returns

@@ -4,60 +4,6 @@ use Rattle.std.proofs.Common.{sym, refl, add-zero, arith}
 use Rattle.sha256.proofs.Windows.{onward}
 use Rattle.sha256.proofs.sixteen_rounds.Goals as goal
 
-pub overflow_add-t-7 : goal.overflow_add-t-7
-overflow_add-t-7 c = omega (
-  arith,
-  c.requires,
-)
-
-pub overflow_add-t-8 : goal.overflow_add-t-8
-overflow_add-t-8 c = omega (
-  arith,
-  c.requires,
-)
-
-pub overflow_add-t-9 : goal.overflow_add-t-9
-overflow_add-t-9 c = omega (
-  arith,
-  c.requires,
-)
-
-pub overflow_add-t-10 : goal.overflow_add-t-10
-overflow_add-t-10 c = omega (
-  arith,
-  c.requires,
-)
-
-pub overflow_add-t-11 : goal.overflow_add-t-11
-overflow_add-t-11 c = omega (
-  arith,
-  c.requires,
-)
-
-pub overflow_add-t-12 : goal.overflow_add-t-12
-overflow_add-t-12 c = omega (
-  arith,
-  c.requires,
-)
-
-pub overflow_add-t-13 : goal.overflow_add-t-13
-overflow_add-t-13 c = omega (
-  arith,
-  c.requires,
-)
-
-pub overflow_add-t-14 : goal.overflow_add-t-14
-overflow_add-t-14 c = omega (
-  arith,
-  c.requires,
-)
-
-pub overflow_add-t-15 : goal.overflow_add-t-15
-overflow_add-t-15 c = omega (
-  arith,
-  c.requires,
-)
-
 pub returns : goal.returns
 returns c b v e =
     let t = c.args.t in

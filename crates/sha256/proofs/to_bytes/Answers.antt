@@ -19,12 +19,12 @@ loop-i-preserved c =
     let out = c.loop-i.out in
     let s = c.args.s in
     let n : length s ≡ 8 = search rules in
-    let x = c.wide.result in
-    let e = c.put_four.ensures in (
+    let x = c.from.result in
+    let e = c.put_number.ensures in (
       omega arith,
       ap length e ∙ length-patch out (be 4 x) (i * 4) (omega (arith, c.loop-i.invariant.1, length-be 4 x)) ∙ c.loop-i.invariant.1,
-      joined_more s out c.put_four.new.d i x h n c.loop-i.invariant.1 c.loop-i.invariant.2
-          c.wide.ensures e,
+      joined_more s out c.put_number.new.d i x h n c.loop-i.invariant.1 c.loop-i.invariant.2
+          (search rules) e,
     )
 
 pub returns : goal.returns

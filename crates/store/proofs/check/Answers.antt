@@ -1,26 +1,12 @@
 -- `store::check` meets its pledge.
 -- Assumes nothing.
-use native.Mathlib.Omega.{arith}
-use mathlib.Core.Path.{sym, ◌∙◌}
-use Rattle.archive.proofs.SoundLaws.{sound_is}
 use Rattle.store.proofs.CheckLaws.{check_done, check_refused}
 use Rattle.store.proofs.check.Goals as goal
 
-pub header-x-requires : goal.header-x-requires
-header-x-requires c = (sound_is _ (sym c.is_sound.ensures ∙ c.if-is_sound.true)).frame.long
-
-pub side-root-requires : goal.side-root-requires
-side-root-requires c = (
-  record { good = sym c.is_sound.ensures ∙ c.if-is_sound.true; header = c.header-x.ensures.0 },
-  omega arith,
-  omega arith,
-)
-
-pub returns-then-is_sound : goal.returns-then-is_sound
-returns-then-is_sound c =
-    check_done _ c.header-x.result c.side-root.result
-    (record { good = sym c.is_sound.ensures ∙ c.if-is_sound.true; header = c.header-x.ensures.0 })
-    c.side-root.ensures
+pub returns-in_default : goal.returns-in_default
+returns-in_default c = check_refused _ c.in_default.ensures
 
 pub returns : goal.returns
-returns c = check_refused _ (sym c.is_sound.ensures ∙ c.if-is_sound.false)
+returns c =
+    rw (← c.in-Some.ensures) (check_done c.in-Some.x.bytes.now c.side-root.result c.in-Some.x.good
+    (rw c.count.ensures at c.side-root.ensures))

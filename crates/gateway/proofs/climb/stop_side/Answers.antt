@@ -8,6 +8,6 @@ pub returns-then-b-eq0 : goal.returns-then-b-eq0
 unfolding stop_side_of
 returns-then-b-eq0 c = simp (eq-eqb _ _ c.if-b-eq0.true) c.no_side.ensures
 
-pub returns : goal.returns
+pub returns-else-b-eq0 : goal.returns-else-b-eq0
 unfolding stop_side_of
-returns c = rw (ne_eqb _ _ c.if-b-eq0.false)
+returns-else-b-eq0 c = rw (ne_eqb _ _ c.if-b-eq0.false)

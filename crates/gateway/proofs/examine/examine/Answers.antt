@@ -1,38 +1,25 @@
 -- What the screen finds is the finding; where it finds nothing, the label decides.
 -- Assumes nothing.
-use mathlib.Core.Path.{◌≡◌, refl, sym, ◌∙◌}
-use native.Mathlib.Omega.{arith}
-use Prim.Native.Nat.{ℕ}
+use mathlib.Core.Path.{sym, ap, ◌∙◌}
+use Rattle.std.specs.Prelude.{Err}
+use Rattle.std.proofs.lemmas.Result.{err_from_is_err_and}
 use Rattle.proofbytes.proofs.FormLaws.{form_sized}
-use Rattle.gateway.proofs.Screens.{screened-fine, found-examined, recomputed-examined}
+use Rattle.gateway.proofs.Screens.{screened-fine, fault-examined, recomputed-examined}
 use Rattle.gateway.proofs.examine.examine.Goals as goal
+
+pub returns-in_err-screen : goal.returns-in_err-screen
+returns-in_err-screen c =
+    let a = c.args in
+    let p = err_from_is_err_and c.from_residual.result c.from_residual.ensures.1 in
+    p.1 ∙ ap Err p.2 ∙ fault-examined a.s.now a.p a.m a.f (sym c.screen.ensures ∙ c.in_err-screen.was)
 
 pub recompute-requires : goal.recompute-requires
 recompute-requires c =
     let a = c.args in
-    form_sized a.s.now (screened-fine a.s.now a.p a.m
-    (sym c.screen-x.ensures ∙ c.in-Fine.is)).formed
+    form_sized a.s.now (screened-fine a.s.now a.p a.m (sym c.screen.ensures ∙ c.in_ok-screen.was)).formed
 
-pub returns-in-Fine : goal.returns-in-Fine
-returns-in-Fine c =
+pub returns : goal.returns
+returns c =
     let a = c.args in
     c.recompute.ensures ∙ recomputed-examined a.s.now a.p a.m a.f c.requires
-    (screened-fine a.s.now a.p a.m (sym c.screen-x.ensures ∙ c.in-Fine.is))
-
-pub returns-in-Misread : goal.returns-in-Misread
-returns-in-Misread c =
-    let a = c.args in
-    c.found.ensures ∙ found-examined a.s.now a.p a.m a.f c.screen-x.ensures
-    c.in-Misread.is (λ e. let z : ◌≡◌ {A = ℕ} 0 1 = cc in absurd (omega arith)) refl
-
-pub returns-in-Misplaced : goal.returns-in-Misplaced
-returns-in-Misplaced c =
-    let a = c.args in
-    c.found-in-Misplaced.ensures ∙ found-examined a.s.now a.p a.m a.f c.screen-x.ensures
-    c.in-Misplaced.is (λ e. let z : ◌≡◌ {A = ℕ} 0 1 = cc in absurd (omega arith)) refl
-
-pub returns-in-Mislabelled : goal.returns-in-Mislabelled
-returns-in-Mislabelled c =
-    let a = c.args in
-    c.found-in-Mislabelled.ensures ∙ found-examined a.s.now a.p a.m a.f c.screen-x.ensures
-    c.in-Mislabelled.is (λ e. let z : ◌≡◌ {A = ℕ} 0 1 = cc in absurd (omega arith)) refl
+    (screened-fine a.s.now a.p a.m (sym c.screen.ensures ∙ c.in_ok-screen.was))

@@ -17,5 +17,5 @@ own_one (suc p) n = refl
 pub returns-then-p-eq0 : goal.returns-then-p-eq0
 returns-then-p-eq0 c = rw (own-zero _ c.if-p-eq0.true)
 
-pub returns : goal.returns
-returns c = rw (own_one _ c.if-p-eq0.false)
+pub returns-else-p-eq0 : goal.returns-else-p-eq0
+returns-else-p-eq0 c = rw (own_one _ c.if-p-eq0.false)

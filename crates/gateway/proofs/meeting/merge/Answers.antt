@@ -45,8 +45,8 @@ overflow_sub-j c =
           c.loop-i-test.true,
     )
 
-pub push-x-requires-in-loop-i : goal.push-x-requires-in-loop-i
-push-x-requires-in-loop-i c =
+pub push-x-requires-else-lower : goal.push-x-requires-else-lower
+push-x-requires-else-lower c =
     let h = second_more _ _ _ _ _ _ _ _ _ c.loop-i.invariant c.lower.ensures c.if-lower.false
     c.loop-i-test.true in
     omega (arith, h, c.loop-i.invariant.j_high)
@@ -62,7 +62,7 @@ loop-i-smaller c =
 pub loop-i-preserved : goal.loop-i-preserved
 loop-i-preserved c =
     merge_other _ _ _ _ _ _ _ _ _ c.loop-i.invariant c.lower.ensures c.requires.5 c.if-lower.false
-    c.loop-i-test.true c.push-x-in-loop-i.ensures
+    c.loop-i-test.true c.push-x-else-lower.ensures
 
 pub returns : goal.returns
 returns c =

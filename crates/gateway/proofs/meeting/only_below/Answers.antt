@@ -4,17 +4,16 @@ use mathlib.Core.Path.{sym, ◌∙◌}
 use Rattle.gateway.specs.Parting.{only_of, only_from}
 use Rattle.gateway.proofs.meeting.only_below.Goals as goal
 
-pub returns-then-not-only : goal.returns-then-not-only
+pub returns-then-only : goal.returns-then-only
 unfolding only_of only_from
-returns-then-not-only c =
-    rw (← c.lesser.ensures.0, sym c.only.ensures ∙ c.if-not-only.true)
-
-pub returns : goal.returns
-unfolding only_of only_from
-returns c =
+returns-then-only c =
     rw (
-      ← c.lesser.ensures.0,
-      sym c.only.ensures
-          ∙ c.if-not-only.false,
-      ← c.lesser-2.ensures.0,
-    ) c.only-2.ensures
+      ← c.min.ensures,
+      sym c.only.ensures ∙ c.if-only.true,
+      ← c.min-then-only.ensures,
+    ) c.only-then-only.ensures
+
+pub returns-else-only : goal.returns-else-only
+unfolding only_of only_from
+returns-else-only c =
+    rw (← c.min.ensures, sym c.only.ensures ∙ c.if-only.false) c.if-only.false

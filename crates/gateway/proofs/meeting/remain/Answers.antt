@@ -13,12 +13,14 @@ returns c =
     let j = c.args.j in
     let e : j - 0 ≡ j = omega arith in
     rw (
+      ← c.entry_count-k.ensures,
+      ← c.entry_count-l.ensures,
       c.fold.ensures,
       taken_all,
       e,
       c.merge-x.ensures,
-      c.lesser-2.ensures.0,
-      c.lesser.ensures.0,
+      c.min-2.ensures,
+      c.min.ensures,
       c.leaf-t.ensures,
       c.stop_side.ensures,
       c.beside_at-c.ensures.0,

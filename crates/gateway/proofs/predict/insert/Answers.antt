@@ -6,5 +6,5 @@ use Rattle.gateway.proofs.predict.insert.Goals as goal
 pub returns : goal.returns
 returns c =
     let a = c.args in
-    rw (c.fold.ensures, c.seat-t.ensures, c.stop_side.ensures, c.beside_at-b.ensures.0)
-    (inserted_parts a.s.now a.k a.h a.tag c.kept-j.ensures.0)
+    rw (← c.entry_count-k.ensures, c.fold.ensures, c.seat-t.ensures, c.stop_side.ensures, c.beside_at-b.ensures.0)
+    (inserted_parts a.s.now c.entry_count-k.result a.h a.tag c.kept-j.ensures.0)

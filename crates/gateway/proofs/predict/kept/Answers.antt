@@ -1,23 +1,17 @@
 -- How many entries Insert keeps.
 -- Assumes nothing.
 use Prim.Native.Nat.{◌-◌}
-use mathlib.Core.Path.{◌≡◌, ◌∙◌}
+use mathlib.Core.Path.{◌∙◌}
 use native.Mathlib.Omega.{arith}
 use Rattle.gateway.proofs.Runs.{kept_more, kept_not, kept_none}
 use Rattle.gateway.proofs.predict.kept.Goals as goal
-
-pub loop-j-init : goal.loop-j-init
-loop-j-init c =
-    let a = c.args in
-    let e : a.k - 0 ≡ a.k = omega arith in
-    (omega arith, rw e (omega arith))
 
 pub returns-then-not-keeps : goal.returns-then-not-keeps
 returns-then-not-keeps c =
     let a = c.args in (
       omega (
         arith,
-        c.loop-j.invariant.1,
+        c.loop-j.invariant,
         kept_not a.s.now a.h c.loop-j.j a.k (omega arith) c.keeps.ensures
             (c.if-not-keeps.true),
       ),
@@ -26,15 +20,12 @@ returns-then-not-keeps c =
 
 pub loop-j-preserved : goal.loop-j-preserved
 loop-j-preserved c =
-    let a = c.args in (
-      omega arith,
-      kept_more a.s.now a.h c.loop-j.j a.k (omega arith) c.keeps.ensures
-          (c.if-not-keeps.false) ∙ c.loop-j.invariant.1,
-    )
+    let a = c.args in
+    kept_more a.s.now a.h c.loop-j.j a.k (omega arith) c.keeps.ensures (c.if-not-keeps.false) ∙ c.loop-j.invariant
 
 pub returns : goal.returns
 returns c =
     let a = c.args in (
-      omega (arith, c.loop-j.invariant.1, kept_none a.s.now a.h c.loop-j.j (a.k - c.loop-j.j) (omega arith)),
+      omega (arith, c.loop-j.invariant, kept_none a.s.now a.h c.loop-j.j (a.k - c.loop-j.j) (omega arith)),
       omega arith,
     )

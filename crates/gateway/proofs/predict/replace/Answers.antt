@@ -8,6 +8,6 @@ use Rattle.gateway.proofs.predict.replace.Goals as goal
 
 pub returns : goal.returns
 returns c =
-    let k = c.args.k in
+    let k = c.entry_count-k.result in
     let e : k - 0 ≡ k = omega arith in
-    rw (c.fold.ensures, taken_all, e, c.leaf-t.ensures, c.stop_side.ensures, c.beside_at-b.ensures.0)
+    rw (← c.entry_count-k.ensures, c.fold.ensures, taken_all, e, c.leaf-t.ensures, c.stop_side.ensures, c.beside_at-b.ensures.0)

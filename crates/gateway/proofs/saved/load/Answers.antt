@@ -6,13 +6,13 @@ use Rattle.gateway.specs.Saving.{load_of}
 use Rattle.gateway.proofs.SavedLaws.{stated_is}
 use Rattle.gateway.proofs.saved.load.Goals as goal
 
-pub four_at-count-requires : goal.four_at-count-requires
-four_at-count-requires c =
+pub number_at-count-requires : goal.number_at-count-requires
+number_at-count-requires c =
     let z = stated_is c.args.s.now (sym c.as_stated.ensures ∙ c.if-as_stated.true) in
     omega (arith, z.size)
 
-pub bytes32-label-requires : goal.bytes32-label-requires
-bytes32-label-requires c =
+pub bytes_at-label-requires : goal.bytes_at-label-requires
+bytes_at-label-requires c =
     let z = stated_is c.args.s.now (sym c.as_stated.ensures ∙ c.if-as_stated.true) in
     omega (arith, z.size)
 
@@ -20,10 +20,10 @@ pub returns-then-as_stated : goal.returns-then-as_stated
 unfolding load_of
 returns-then-as_stated c =
     let e = sym c.as_stated.ensures ∙ c.if-as_stated.true in
-    record { verdict = rw e; metadata = rw (e, c.four_at-count.ensures.0, c.bytes32-label.ensures) }
+    record { verdict = rw e; metadata = rw (e, c.number_at-count.ensures.0, c.bytes_at-label.ensures) }
 
-pub returns : goal.returns
+pub returns-else-as_stated : goal.returns-else-as_stated
 unfolding load_of
-returns c =
+returns-else-as_stated c =
     let e = sym c.as_stated.ensures ∙ c.if-as_stated.false in
     record { verdict = rw e; metadata = rw e }

@@ -5,6 +5,7 @@ use mathlib.Core.Path.{◌≡◌, ◌∙◌}
 use Prim.Native.Nat.{◌+◌, ◌-◌, ◌*◌}
 use Rattle.octets.specs.Runs.{part}
 use Rattle.jointbytes.proofs.StandLaws.{test_over, test_all, test_none, test_held, test_next}
+use Rattle.jointbytes.proofs.read.shares_most.Goals.{then-k-q-2-via-then-k-q-2, then-k-q-2-via-else-k-q-2+then-q-eq0}
 use Rattle.jointbytes.proofs.read.shares_most.Goals as goal
 
 pub returns-then-k-q : goal.returns-then-k-q
@@ -13,11 +14,11 @@ returns-then-k-q c =
 
 pub returns-then-k-q-2 : goal.returns-then-k-q-2
 returns-then-k-q-2 c =
-    test_all c.args.s.now c.args.i c.args.k c.args.q c.requires.2 c.requires.3 c.if-k-q-2.true
-
-pub returns-then-q-eq0 : goal.returns-then-q-eq0
-returns-then-q-eq0 c =
-    test_none c.args.s.now c.args.i c.args.k c.args.q c.requires.2 c.requires.3 c.if-k-q.false c.if-q-eq0.true
+    let a = c.args in
+    elim c.then-k-q-2.branch [
+      | then-k-q-2-via-then-k-q-2 w ↦ test_all a.s.now a.i a.k a.q c.requires.2 c.requires.3 w.if-k-q-2.true
+      | then-k-q-2-via-else-k-q-2+then-q-eq0 w ↦ test_none a.s.now a.i a.k a.q c.requires.2 c.requires.3 c.if-k-q.false w.if-q-eq0.true
+    ]
 
 pub overflow_sub-at : goal.overflow_sub-at
 overflow_sub-at c =
@@ -39,8 +40,8 @@ overflow_add-at-2 c =
     let h = test_held c.args.s.now c.args.i c.args.k c.args.q c.requires.2 c.requires.3 c.requires.1 c.if-k-q.false c.if-k-q-2.false c.holder-h.ensures in
     omega (arith, h.shares, h.owns, h.fits)
 
-pub slice_bounds-same_bytes-end : goal.slice_bounds-same_bytes-end
-slice_bounds-same_bytes-end c =
+pub slice_bounds-ne-end : goal.slice_bounds-ne-end
+slice_bounds-ne-end c =
     let h = test_held c.args.s.now c.args.i c.args.k c.args.q c.requires.2 c.requires.3 c.requires.1 c.if-k-q.false c.if-k-q-2.false c.holder-h.ensures in
     omega (arith, h.shares, h.owns, h.fits)
 
@@ -54,4 +55,4 @@ returns c =
     let h = test_held c.args.s.now c.args.i c.args.k q c.requires.2 c.requires.3 c.requires.1 l m c.holder-h.ensures in
     let e : (g.from + 38 * (q.shared - g.shared) + 38) - (g.from + 38 * (q.shared - g.shared)) ≡ 38 = omega arith in
     let d : (q.from + 38) - q.from ≡ 38 = omega arith in
-    test_next c.args.s.now c.args.i c.args.k q c.requires.2 c.requires.3 h l m c.if-q-eq0.false (c.same_bytes.ensures ∙ rw (e, d))
+    c.ne.ensures ∙ test_next c.args.s.now c.args.i c.args.k q c.requires.2 c.requires.3 h l m c.if-q-eq0.false (rw (e, d))

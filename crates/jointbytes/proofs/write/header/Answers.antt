@@ -7,5 +7,5 @@ use Rattle.jointbytes.proofs.write.header.Goals as goal
 
 pub returns : goal.returns
 returns c =
-    header_is c.args.d.now c.put_one.new.d c.put_four.new.d c.put_one-2.new.d c.args.m c.args.rest (search rules) (search rules)
-    c.put_one.ensures c.put_four.ensures c.put_one-2.ensures
+    header_is c.args.d.now c.put_number.new.d c.put_number-2.new.d c.put_number-3.new.d c.args.m c.args.rest (search rules) (search rules)
+    c.put_number.ensures c.put_number-2.ensures c.put_number-3.ensures

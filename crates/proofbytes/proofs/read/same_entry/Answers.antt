@@ -11,4 +11,4 @@ unfolding part
 returns c =
     let a = c.args in
     let e : (3 + 38 * a.i + 38) - (3 + 38 * a.i) ≡ 38 = omega arith in
-    c.same_bytes.ensures ∙ rw e
+    c.eq.ensures ∙ rw e

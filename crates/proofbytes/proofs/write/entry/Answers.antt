@@ -6,8 +6,8 @@ use Rattle.proofbytes.proofs.write.entry.Goals as goal
 
 pub returns : goal.returns
 returns c =
-    entry_is c.args.d.now c.put_one.new.d c.put_one-2.new.d c.put_four.new.d c.copy.new.d
+    entry_is c.args.d.now c.put_number.new.d c.put_number-2.new.d c.put_number-3.new.d c.copy.new.d
     c.args.bytes
     c.args.kind c.args.level c.args.rank c.requires c.well_formed.1.1.1.1.0.1.0.1 (search rules)
     (search rules)
-    c.put_one.ensures c.put_one-2.ensures c.put_four.ensures c.copy.ensures
+    c.put_number.ensures c.put_number-2.ensures c.put_number-3.ensures c.copy.ensures

@@ -6,5 +6,5 @@ use Rattle.proofbytes.proofs.write.header.Goals as goal
 
 pub returns : goal.returns
 returns c =
-    header_is c.args.d.now c.put_one.new.d c.put_two.new.d c.args.k (search rules)
-    c.put_one.ensures c.put_two.ensures
+    header_is c.args.d.now c.put_number.new.d c.put_number-2.new.d c.args.k (search rules)
+    c.put_number.ensures c.put_number-2.ensures

