@@ -29,27 +29,21 @@ fn own_fits(own: u64, p: u64) -> bool
 }
 
 // What is found without hashing: form, position, rank.
-// A match around the tests: with `?` and the tests after it the call takes more stack.
 pub fn screen(s: &[u8], p: u64, m: Metadata) -> Result<(), Fault>
     ensures { result ≡ screened_of s.now p m }
 {
-    let f = proofbytes::read::form(s);
-    match f {
-        None => Err(Fault::Misread),
-        Some(Proven { position, rank }) => {
-            if position != p {
-                return Err(Fault::Misplaced);
-            }
-            let e = proofbytes::read::entry_at(s, proofbytes::read::entry_count(s));
-            if !own_fits(e.number, p) {
-                return Err(Fault::Misplaced);
-            }
-            if rank != m.count {
-                return Err(Fault::Mislabelled);
-            }
-            Ok(())
-        }
+    let Proven { position, rank } = proofbytes::read::form(s).ok_or(Fault::Misread)?;
+    if position != p {
+        return Err(Fault::Misplaced);
     }
+    let e = proofbytes::read::entry_at(s, proofbytes::read::entry_count(s));
+    if !own_fits(e.number, p) {
+        return Err(Fault::Misplaced);
+    }
+    if rank != m.count {
+        return Err(Fault::Mislabelled);
+    }
+    Ok(())
 }
 
 // The root's label against the one held, for bytes that passed the screen; what is recomputed below the first f
