@@ -3,9 +3,11 @@
 // it silently.
 #![tactic(auto)]
 
+ghost use Rattle.std.specs.Prelude.{◌≤◌, IfOk, length};
+
 use crate::calls::answer;
 use crate::request::Fault;
-use std::io::{self, Cursor, Read};
+use std::io::{self, ErrorKind, Read};
 
 mod calls;
 mod fields;
@@ -15,10 +17,27 @@ mod request;
 
 const MOST_FRAME: usize = 200000;
 
-// Fills the buffer, or stops where the input ends: how many bytes came.
-fn fill<R: Read>(reader: &mut R, buffer: &mut [u8]) -> io::Result<u64> {
-    let size = buffer.len() as u64;
-    io::copy(&mut reader.by_ref().take(size), &mut Cursor::new(buffer))
+// Fills the buffer, or stops where the input ends: how many bytes came. A read that a signal broke off is tried again.
+// Read straight into the buffer: `io::copy` reads into one of its own, 8,192 bytes at a time.
+fn fill<R: Read>(reader: &mut R, buffer: &mut [u8]) -> io::Result<usize>
+    ensures { IfOk result (λ n. n ≤ length buffer.new) }
+{
+    let mut at = 0;
+    for _ in 0..u64::MAX {
+        if at >= buffer.len() {
+            break;
+        }
+        match reader.read(&mut buffer[at..]) {
+            Ok(0) => break,
+            Ok(n) => at += n,
+            Err(e) => {
+                if e.kind() != ErrorKind::Interrupted {
+                    return Err(e);
+                }
+            }
+        }
+    }
+    Ok(at)
 }
 
 // Reads one frame and answers it; false where the run is over.
@@ -33,7 +52,7 @@ fn turn<R: Read>(rt: &impl Print, reader: &mut R, space: &mut [u8]) -> Result<bo
     let Some(frame) = space.get_mut(..size) else {
         return Err(Fault::BadFrame);
     };
-    if fill(reader, frame)? < size as u64 {
+    if fill(reader, frame)? < size {
         return Err(Fault::BadFrame);
     }
     answer(rt, frame)?;

@@ -3,7 +3,7 @@
 use Rattle.std.specs.Prelude.{Ok, Err}
 use Prim.Native.Nat.{ℕ, ◌+◌, ◌-◌, ◌≤◌}
 use mathlib.Core.Path.{◌≡◌, refl, sym, ap, ap₂, subst, ◌∙◌}
-use Rattle.std.specs.Result.{MatchResult, IsErrAnd}
+use Rattle.std.specs.Result.{MatchResult, IsErrAnd, result_and, result_unwrap_or}
 use mathlib.Core.Bool.{Bool, true, false, cond, not, ◌&&◌, ◌||◌}
 use mathlib.Core.List.{List, [], ◌∷◌, ◌++◌}
 use native.Mathlib.Omega.{arith}
@@ -97,6 +97,23 @@ module _ (s : List ℕ) (p : ℕ) (m : Metadata) (f : ℕ) {x : Result code.Side
       go : (y : Result (Unit {0}) Fault) → kept_of y s f ≡ Err z → y ≡ Err z
       go (Ok tt) r = let n : ◌≡◌ {A = ℕ} 0 1 = cc in absurd (omega arith)
       go (Err y) r = ap Err cc
+
+  -- what is kept of it left out
+  pub examined-finding : result_and x (Ok (tt {0})) ≡ finding_of s p m
+  unfolding examined_of
+  examined-finding = rw e (go (finding_of s p m))
+    where
+      go : (y : Result (Unit {0}) Fault) → result_and (kept_of y s f) (Ok (tt {0})) ≡ y
+      go (Ok tt) = refl
+      go (Err z) = refl
+
+  -- what is kept where the verdict by it is done
+  pub examined-kept : (w : Which) {y : Result (Unit {0}) Fault} → y ≡ result_and x (Ok (tt {0})) → {v : Verdict} → v ≡ blamed w y
+      → v ≡ Ok tt → (d : code.Side) {t : code.Side} → t ≡ result_unwrap_or x d → (finding_of s p m ≡ Ok tt) × (t ≡ below_of s f)
+  unfolding examined_of
+  examined-kept w ey ev q d et =
+      let g = (rules_done w s p m [] (sym (ev ∙ ap (blamed w) (ey ∙ examined-finding)) ∙ q)).1 in
+      (g, et ∙ ap (λ z. result_unwrap_or z d) e ∙ ap (λ z. result_unwrap_or (kept_of z s f) d) g)
 
 -- a finding handed on with what P says of its fault
 module _ {A : Type 0} (P : Fault → Refusal → Type 0) {x : Result A Fault} {y : Result A Refusal}
@@ -214,13 +231,11 @@ module _ (m : Metadata) (small : m.count ≤ 4096) (a b : List ℕ) (ba : Bytes 
       ∙ sym (rw (meets_test, q))
 
 module _ (m : Metadata) (p : ℕ) (a b : List ℕ) where
-  pub second-refused : {x : Fault} {why : Refusal} → finding_of b p m ≡ Err x → why ≡ refusal_of Second x
-      → refused_of m why ≡ after_first m p a b
+  pub second-refused : {why : Refusal} → blamed Second (finding_of b p m) ≡ Err why → refused_of m why ≡ after_first m p a b
   unfolding after_first
-  second-refused {why = why} q r =
+  second-refused {why} q =
       answered-refused (verdict_of (later_rules Delete m p [] a b)) why (shown (place_of b).item) (remaining_of a b) m
-      (rules_refused Second b p m ((NotNeighbours when not (meets 𝓢 side-discrete (place_of a) (place_of b))) ∷ [])
-      (ap (blamed Second) q ∙ ap Err (sym r)))
+      (rules_refused Second b p m ((NotNeighbours when not (meets 𝓢 side-discrete (place_of a) (place_of b))) ∷ []) q)
 
   pub second_fine : blamed Second (finding_of b p m) ≡ Ok tt → finding_of b p m ≡ Ok tt
   second_fine q = (rules_done Second b p m [] q).1

@@ -6,6 +6,7 @@ ghost use Rattle.refusals.specs.Order.{verdict_of};
 ghost use Rattle.skiplist.specs.Limits.{most_blocks};
 ghost use Rattle.skiplist.specs.Recompute.{proved_rank};
 ghost use Rattle.skiplist.specs.Blocks.{shown as shown_is};
+ghost use Rattle.skiplist.specs.Commands.{repeats_at};
 ghost use Rattle.commands.specs.declared.Operation.TheVariants.{Insert};
 ghost use Rattle.proofbytes.specs.Reading.{Sized, place_of};
 ghost use Rattle.proofbytes.specs.Form.{well_formed};
@@ -124,8 +125,7 @@ pub fn proof_verdict(w: Which, m: Metadata, p: u64, s: &[u8]) -> Verdict
     requires { m.count ≤ most_blocks }
     ensures { result ≡ blamed w (finding_of s.now p m) }
 {
-    examine::examine(s, p, m, 0).map_err(|f| refusal(f, w))?;
-    Ok(())
+    blame(examine::examine(s, p, m, 0).and(Ok(())), w)
 }
 
 // "Read p: reports the tag, metadata stays."
@@ -168,6 +168,15 @@ pub fn inserted(height: u8, tag: [u8; 32], s: &[u8]) -> Answer
     a.into()
 }
 
+// 14: does the tag stand at p already, where its proof stops?
+// A function of its own: in `insert`'s own body the tag that it reads takes 32 bytes more of the check's 2,048.
+fn stands_at(p: u64, tag: [u8; 32], s: &[u8]) -> bool
+    requires { Sized s.now }
+    ensures { result ≡ repeats_at p tag (shown_is (place_of s.now).item) }
+{
+    commands::repeated(p, tag, shown(s))
+}
+
 // "Insert after p a tag with a height": not the tag at p.
 #[inline(never)]
 fn insert(m: Metadata, p: u64, height: u8, tag: [u8; 32], s: &[u8]) -> Result<Accepted, Refusal>
@@ -176,15 +185,15 @@ fn insert(m: Metadata, p: u64, height: u8, tag: [u8; 32], s: &[u8]) -> Result<Ac
         (inserted_of height tag s.now) }
 {
     proof_verdict(Which::First, m, p, s)?;
-    if commands::repeated(p, tag, shown(s)) {
+    if stands_at(p, tag, s) {
         return Err(Refusal::Repeated);
     }
-    // Made here and not by a function that `inserted` shares: that takes 64 bytes more of the check's 2,048.
-    let x = predict::insert(s, height, tag);
-    Ok(Accepted {
-        tag: shown(s),
-        metadata: metadata_of(x),
-    })
+    let Answer {
+        verdict: _,
+        tag,
+        metadata,
+    } = inserted(height, tag, s);
+    Ok(Accepted { tag, metadata })
 }
 
 // "Delete p: two proofs, first for p - 1, second for p." The parting is found by bytes first, so that what is
@@ -196,7 +205,10 @@ fn delete(m: Metadata, p: u64, a: &[u8], b: &[u8]) -> Result<Accepted, Refusal>
 {
     let j = meeting::shared(a, b);
     let u = examine::examine(a, p - 1, m, j + 1).map_err(|f| refusal(f, Which::First))?;
-    let v = examine::examine(b, p, m, j + 1).map_err(|f| refusal(f, Which::Second))?;
+    let y = examine::examine(b, p, m, j + 1);
+    let f = y.and(Ok(()));
+    blame(f, Which::Second)?;
+    let v = y.unwrap_or(labels::no_side());
     if !meeting::meet(a, b, j, u, v) {
         return Err(Refusal::NotNeighbours);
     }

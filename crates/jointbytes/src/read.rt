@@ -127,7 +127,7 @@ fn shares_most(s: &[u8], i: usize, k: usize, q: Piece) -> bool
     }
     let h = holder(s, i, q.shared);
     let at = h.from + ENTRY * (q.shared - h.shared);
-    s[at..at + ENTRY] != s[q.from..q.from + ENTRY]
+    octets::bytes_at::<ENTRY>(s, at) != octets::bytes_at::<ENTRY>(s, q.from)
 }
 
 // Version, length and number.

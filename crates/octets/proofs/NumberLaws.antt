@@ -24,6 +24,11 @@ number_at-same zero s t a b h = refl
 number_at-same (suc k) s t a b h =
     rw (number_at-same k s t a b (λ i l. h i (omega arith)), h k (omega arith))
 
+pub number_at_bound : (k : ℕ) (s : List ℕ) (a : ℕ) → Bytes s → number_at k s a < 256 ^ k
+unfolding number_at
+number_at_bound zero s a h = omega arith
+number_at_bound (suc k) s a h = omega (arith, number_at_bound k s a h, h (a + k))
+
 -- a number of fewer than eight bytes has room for one more
 powers : (k d : ℕ) → 256 ^ k ≤ 256 ^ (d + k)
 powers k zero = rw zero-add (omega arith)
@@ -46,6 +51,11 @@ pub put_last : (d : List ℕ) (a k n : ℕ) → a + suc k ≤ length d
 put_last d a k n h =
     rw (of_set d (a + k) (n % 256) (omega arith))
     (patch_before d (be k (n / 256)) (n % 256 ∷ []) a (a + k) (ap (λ (m : ℕ). a + m) (length-be k (n / 256))) (omega arith))
+
+-- the same, wherever the last byte is said to stand
+pub put_place : (d : List ℕ) (a k p n : ℕ) → p ≡ a + k → a + suc k ≤ length d
+    → patch (set d p (n % 256)) a (be k (n / 256)) ≡ patch d a (be (suc k) n)
+put_place d a k p n e h = rw e (put_last d a k n h)
 
 -- what is written is read back
 pub read_be : (k n : ℕ) → n < 256 ^ k → number_at k (be k n) 0 ≡ n

@@ -1,7 +1,7 @@
 -- Laws of `part`: its length, one element more at either end, parts side by side, and the part that a patch wrote.
 -- Assumes nothing.
 use Prim.Native.Nat.{ℕ, suc, ◌+◌, ◌-◌, ◌≤◌, ◌<◌}
-use mathlib.Core.Path.{◌≡◌, refl, ◌∙◌}
+use mathlib.Core.Path.{◌≡◌, refl, ap, ◌∙◌}
 use mathlib.Core.List.{List, [], ◌∷◌, ◌++◌, append_assoc}
 use native.Mathlib.Omega.{arith}
 use lib.ListN.{length, take, drop, get_or, length-drop}
@@ -25,6 +25,10 @@ part_all xs = take-length xs
 pub part-cons : (xs : List ℕ) (a k : ℕ) → a < length xs → part xs a (suc k) ≡ get_or xs a 0 ∷ part xs (suc a) k
 unfolding part
 part-cons xs a k h = rw (drop-cons xs a 0 h)
+
+-- one alone
+pub part_one : (xs : List ℕ) (a : ℕ) → a < length xs → part xs a 1 ≡ get_or xs a 0 ∷ []
+part_one xs a h = part-cons xs a 0 h ∙ ap (λ (ys : List ℕ). get_or xs a 0 ∷ ys) (part_none xs (suc a))
 
 -- one more at the end
 pub part-snoc : (xs : List ℕ) (a k : ℕ) → a + k < length xs → part xs a (suc k) ≡ part xs a k ++ (get_or xs (a + k) 0 ∷ [])

@@ -34,12 +34,14 @@ pub fn put_number<const N: usize>(d: &mut [u8], at: usize, n: u64)
 }
 
 // All of s, over d from `at` on.
-#[tactic(auto, using(crate::proofs::PatchLaws::of_lent))]
+// By hand: with `copy_from_slice` the library for C would need memmove from outside.
 pub fn copy(d: &mut [u8], at: usize, s: &[u8])
     requires { at + length s.now ≤ length d.old }
     ensures { d.new ≡ patch d.old at s.now }
 {
-    d[at..at + s.len()].copy_from_slice(s);
+    for i in 0..s.len() {
+        d[at + i] = s[i];
+    }
 }
 
 // The N bytes of s from `at` on, by value.

@@ -88,13 +88,15 @@ pub fn beside_at(s: &[u8], k: usize) -> Beside
     }
 }
 
-// Are the i-th entries of two proofs equal, byte for byte?
+// Are the i-th entries of two proofs equal, byte for byte? As arrays they are compared to their end. Apart, so that their 76 bytes stand
+// in no caller's frame.
+#[inline(never)]
 pub fn same_entry(a: &[u8], b: &[u8], i: usize) -> bool
     requires { (at i + entry_size ≤ length a.now) × (at i + entry_size ≤ length b.now) }
     ensures { result ≡ same (part a.now (at i) entry_size) (part b.now (at i) entry_size) }
 {
     let from = HEADER + ENTRY * i;
-    a[from..from + ENTRY] == b[from..from + ENTRY]
+    octets::bytes_at::<ENTRY>(a, from) == octets::bytes_at::<ENTRY>(b, from)
 }
 
 // The rules on one entry answer the greatest level that the next one may have, or nothing where it is refused. One

@@ -2,7 +2,7 @@
 -- it speaks of: "7, 8 and 9 also say which proof, first or second"; of a joint proof "with its place".
 -- Assumes nothing.
 use Rattle.refusals.specs.Order.{Verdict}
-use Rattle.std.specs.Prelude.{ℕ, Ok, Err}
+use Rattle.std.specs.Prelude.{ℕ, List, Ok, Err, codes}
 use Rattle.refusals.specs.declared.Which.{Which}
 use Rattle.refusals.specs.declared.Which.TheVariants.{First, Second, Place}
 use Rattle.refusals.specs.declared.Refusal.{Refusal}
@@ -28,6 +28,25 @@ number_of BadSet = 13
 number_of Repeated = 14
 number_of OutOfTime = 15
 number_of WrongBlock = 16
+
+-- its name there, as text
+abbrev pub name_of : Refusal → List ℕ
+name_of BadImage = codes "BAD IMAGE"
+name_of BadPosition = codes "BAD POSITION"
+name_of BadHeight = codes "BAD HEIGHT"
+name_of Full = codes "FULL"
+name_of NoRoom = codes "NO ROOM"
+name_of TooDeep = codes "TOO DEEP"
+name_of (BadProof w) = codes "BAD PROOF"
+name_of (WrongPosition w) = codes "WRONG POSITION"
+name_of (WrongLabel w) = codes "WRONG LABEL"
+name_of NotNeighbours = codes "NOT NEIGHBOURS"
+name_of LongMessage = codes "LONG MESSAGE"
+name_of BadMetadata = codes "BAD METADATA"
+name_of BadSet = codes "BAD SET"
+name_of Repeated = codes "REPEATED"
+name_of OutOfTime = codes "OUT OF TIME"
+name_of WrongBlock = codes "WRONG BLOCK"
 
 -- nothing refused is 0
 abbrev pub verdict_number : Verdict → ℕ

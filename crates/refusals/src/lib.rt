@@ -2,8 +2,8 @@
 //! number of the table, 7, 8 and 9 with the proof that they speak of.
 #![tactic(auto)]
 
-ghost use Rattle.std.specs.Prelude.{◌≡◌};
-ghost use Rattle.refusals.specs.Numbers.{number_of, proof_of, proof_number, verdict_number};
+ghost use Rattle.std.specs.Prelude.{◌≡◌, Some};
+ghost use Rattle.refusals.specs.Numbers.{number_of, name_of, proof_of, proof_number, verdict_number};
 
 use std::error::Error;
 use std::fmt;
@@ -82,6 +82,8 @@ impl From<Which> for u8 {
 
 /// The refusal's name in the table.
 impl fmt::Display for Refusal {
+    ghost output = { λ r. Some (name_of r) };
+
     fn fmt<W: fmt::Write>(&self, f: &mut fmt::Formatter<W>) -> fmt::Result {
         f.write_str(match self {
             Refusal::BadImage => "BAD IMAGE",

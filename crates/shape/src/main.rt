@@ -2,8 +2,10 @@
 // number of entries in the path to it.
 #![tactic(auto)]
 
+ghost use Rattle.std.specs.Prelude.{◌≤◌, IfOk, length};
+
 use refusals::Refusal;
-use std::io::{self, Cursor, Read};
+use std::io::{self, ErrorKind, Read};
 
 const MOST_INPUT: usize = 65536;
 // One byte more than the most is read, so that longer input is seen.
@@ -32,10 +34,32 @@ fn show(rt: &impl Print, image: &[u8]) -> io::Result<()> {
     }
 }
 
+// Fills the buffer, or stops where the input ends: how many bytes came. A read that a signal broke off is tried again.
+// Read straight into the buffer: `io::copy` reads into one of its own, 8,192 bytes at a time.
+fn fill<R: Read>(reader: &mut R, buffer: &mut [u8]) -> io::Result<usize>
+    ensures { IfOk result (λ n. n ≤ length buffer.new) }
+{
+    let mut at = 0;
+    for _ in 0..u64::MAX {
+        if at >= buffer.len() {
+            break;
+        }
+        match reader.read(&mut buffer[at..]) {
+            Ok(0) => break,
+            Ok(n) => at += n,
+            Err(e) => {
+                if e.kind() != ErrorKind::Interrupted {
+                    return Err(e);
+                }
+            }
+        }
+    }
+    Ok(at)
+}
+
 fn main(rt: HostRuntime) -> io::Result<()> {
     let mut input = [0; SPACE];
-    let mut all = rt.reader().take(SPACE as u64);
-    let n = io::copy(&mut all, &mut Cursor::new(input.as_mut_slice()))? as usize;
+    let n = fill(&mut rt.reader(), &mut input)?;
     if MOST_INPUT < n {
         return refused(&rt, Refusal::NoRoom);
     }

@@ -2,21 +2,27 @@
 // another block begins and of the limit. A line each: which message, and its digest or the refusal.
 #![tactic(auto)]
 
-use std::fmt::Display;
+use std::fmt::{self, Display};
 use std::io;
 
-fn print_hex(rt: &impl Print, bytes: [u8; 32]) -> io::Result<()> {
-    for b in bytes {
-        print!(rt; "{b:02x}")?;
+// A digest in hexadecimal digits. A line is printed at once, and not byte by byte.
+#[derive(Clone, Copy)]
+struct Hex([u8; 32]);
+
+impl fmt::Display for Hex {
+    fn fmt<W: fmt::Write>(&self, f: &mut fmt::Formatter<W>) -> fmt::Result {
+        for b in self.0 {
+            write!(f, "{b:02x}")?;
+        }
+        Ok(())
     }
-    println!(rt)
 }
 
 fn show(rt: &impl Print, name: impl Display + Drop, m: &[u8]) -> io::Result<()> {
     print!(rt; "{name}: ")?;
     let d = sha256::digest(m);
     match d.verdict {
-        Ok(()) => print_hex(rt, d.bytes),
+        Ok(()) => println!(rt; "{}", Hex(d.bytes)),
         Err(r) => println!(rt; "refused {:02}", u8::from(r)),
     }
 }

@@ -6,12 +6,13 @@ use Prim.Native.Nat.{◌+◌, ◌-◌}
 use native.Mathlib.Omega.{arith}
 use mathlib.Core.Path.{refl, ap, ◌∙◌}
 use Rattle.std.proofs.lemmas.Result.{err_from_is_err_and}
+use Rattle.refusals.specs.declared.Which.TheVariants.{Second}
 use Rattle.proofbytes.proofs.FormLaws.{form_sized}
 use Rattle.proofbytes.proofs.WrittenBack.{formed_writable}
 use Rattle.gateway.specs.Working.{answer_with}
 use Rattle.gateway.proofs.Screens.{fine-passed}
-use Rattle.gateway.proofs.Answers.{blamed-err, handed-side, examined-fault, delete_refused, delete_done}
-use Rattle.gateway.proofs.Answers.{second-refused, second-done, join_refused, join_done}
+use Rattle.gateway.proofs.Answers.{blamed-err, handed-side, examined-fault, examined-finding, examined-kept}
+use Rattle.gateway.proofs.Answers.{delete_refused, delete_done, second-refused, second-done, join_refused, join_done}
 use Rattle.gateway.proofs.delete.Goals as goal
 
 pub returns-in_err-u : goal.returns-in_err-u
@@ -23,15 +24,18 @@ returns-in_err-u c =
     ∙ delete_refused a.m a.p a.a.now a.b.now
     (examined-fault a.a.now (a.p - 1) a.m (c.shared-j.result + 1) c.examine.ensures f.1) (search (f.2, rules))
 
-pub returns-in_err-v : goal.returns-in_err-v
-returns-in_err-v c =
+pub returns-in_err-blame : goal.returns-in_err-blame
+returns-in_err-blame c =
     let a = c.args in
     let j = c.shared-j.result + 1 in
-    let p = err_from_is_err_and c.from_residual-in_err-v.result c.from_residual-in_err-v.ensures.1 in
-    let f = blamed-err _ c.map_err-2.ensures.cases c.in_err-v.was in
+    let p = err_from_is_err_and c.from_residual-in_err-blame.result c.from_residual-in_err-blame.ensures.1 in
+    let found = examined-finding a.b.now a.p a.m j c.examine-y.ensures in
+    let kept = c.and-f.ensures in
+    let told = c.blame.ensures in
+    let was = c.in_err-blame.was in
     let x = handed-side a.a.now (a.p - 1) a.m j c.examine.ensures _ c.map_err.ensures.cases c.in_ok-u.was in
     ap (answer_with a.m) (p.1 ∙ ap Err p.2)
-    ∙ second-refused a.m a.p a.a.now a.b.now (examined-fault a.b.now a.p a.m j c.examine-2.ensures f.1) (search (f.2, rules))
+    ∙ second-refused a.m a.p a.a.now a.b.now (cc)
     ∙ delete_done a.m a.p a.a.now a.b.now x.0
 
 pub meet-requires : goal.meet-requires
@@ -39,7 +43,8 @@ meet-requires c =
     let a = c.args in
     let j = c.shared-j.result + 1 in
     let x = handed-side a.a.now (a.p - 1) a.m j c.examine.ensures _ c.map_err.ensures.cases c.in_ok-u.was in
-    let y = handed-side a.b.now a.p a.m j c.examine-2.ensures _ c.map_err-2.ensures.cases c.in_ok-v.was in
+    let v = c.unwrap_or-v.ensures in
+    let y = examined-kept a.b.now a.p a.m j c.examine-y.ensures Second c.and-f.ensures c.blame.ensures c.in_ok-blame.was _ v in
     let s = form_sized a.a.now (fine-passed a.a.now (a.p - 1) a.m x.0).formed in
     let t = form_sized a.b.now (fine-passed a.b.now a.p a.m y.0).formed in
     (omega (arith, s.long), omega (arith, t.long), c.shared-j.ensures.1)
@@ -49,7 +54,8 @@ returns-then-not-meet c =
     let a = c.args in
     let j = c.shared-j.result + 1 in
     let x = handed-side a.a.now (a.p - 1) a.m j c.examine.ensures _ c.map_err.ensures.cases c.in_ok-u.was in
-    let y = handed-side a.b.now a.p a.m j c.examine-2.ensures _ c.map_err-2.ensures.cases c.in_ok-v.was in
+    let v = c.unwrap_or-v.ensures in
+    let y = examined-kept a.b.now a.p a.m j c.examine-y.ensures Second c.and-f.ensures c.blame.ensures c.in_ok-blame.was _ v in
     join_refused a.m c.requires.0 a.a.now a.b.now
     (λ i. omega (arith, c.type_inv.a i)) (λ i. omega (arith, c.type_inv.b i))
     (fine-passed a.a.now (a.p - 1) a.m x.0) (fine-passed a.b.now a.p a.m y.0)
@@ -62,7 +68,8 @@ remain-rest-requires c =
     let a = c.args in
     let j = c.shared-j.result + 1 in
     let x = handed-side a.a.now (a.p - 1) a.m j c.examine.ensures _ c.map_err.ensures.cases c.in_ok-u.was in
-    let y = handed-side a.b.now a.p a.m j c.examine-2.ensures _ c.map_err-2.ensures.cases c.in_ok-v.was in
+    let v = c.unwrap_or-v.ensures in
+    let y = examined-kept a.b.now a.p a.m j c.examine-y.ensures Second c.and-f.ensures c.blame.ensures c.in_ok-blame.was _ v in
     let s = fine-passed a.a.now (a.p - 1) a.m x.0 in
     let t = fine-passed a.b.now a.p a.m y.0 in
     let sized = form_sized a.a.now s.formed in
@@ -77,7 +84,9 @@ remain-rest-requires c =
 pub shown-requires : goal.shown-requires
 shown-requires c =
     let a = c.args in
-    let y = handed-side a.b.now a.p a.m (c.shared-j.result + 1) c.examine-2.ensures _ c.map_err-2.ensures.cases c.in_ok-v.was in
+    let j = c.shared-j.result + 1 in
+    let v = c.unwrap_or-v.ensures in
+    let y = examined-kept a.b.now a.p a.m j c.examine-y.ensures Second c.and-f.ensures c.blame.ensures c.in_ok-blame.was _ v in
     form_sized a.b.now (fine-passed a.b.now a.p a.m y.0).formed
 
 pub returns : goal.returns
@@ -85,7 +94,8 @@ returns c =
     let a = c.args in
     let j = c.shared-j.result + 1 in
     let x = handed-side a.a.now (a.p - 1) a.m j c.examine.ensures _ c.map_err.ensures.cases c.in_ok-u.was in
-    let y = handed-side a.b.now a.p a.m j c.examine-2.ensures _ c.map_err-2.ensures.cases c.in_ok-v.was in
+    let v = c.unwrap_or-v.ensures in
+    let y = examined-kept a.b.now a.p a.m j c.examine-y.ensures Second c.and-f.ensures c.blame.ensures c.in_ok-blame.was _ v in
     join_done a.m c.requires.0 a.a.now a.b.now
     (λ i. omega (arith, c.type_inv.a i)) (λ i. omega (arith, c.type_inv.b i))
     (fine-passed a.a.now (a.p - 1) a.m x.0) (fine-passed a.b.now a.p a.m y.0)

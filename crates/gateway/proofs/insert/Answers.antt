@@ -2,18 +2,18 @@
 -- Assumes nothing.
 use Rattle.std.specs.Prelude.{Ok, Err}
 use native.Mathlib.Omega.{arith}
-use mathlib.Core.Path.{refl, sym, ap, ◌∙◌}
+use mathlib.Core.Path.{sym, ap, ◌∙◌}
 use mathlib.Core.Bool.{cond}
 use mathlib.Core.List.{[]}
 use Rattle.refusals.specs.declared.Refusal.TheVariants.{Repeated}
-use Rattle.skiplist.specs.Commands.{repeats_at}
 use Rattle.commands.specs.declared.Operation.TheVariants.{Insert}
 use Rattle.std.proofs.lemmas.Result.{err_from_is_err_and}
 use Rattle.proofbytes.proofs.FormLaws.{form_sized}
+use Rattle.gateway.specs.declared.Answer.{Answer}
 use Rattle.gateway.specs.Gateway.{later_rules, inserted_of}
 use Rattle.gateway.specs.Working.{answer_with}
 use Rattle.gateway.proofs.Screens.{fine-passed}
-use Rattle.gateway.proofs.Answers.{one_refused, one_fine, one_later, one_done, insert_new}
+use Rattle.gateway.proofs.Answers.{one_refused, one_fine, one_later, one_done}
 use Rattle.gateway.proofs.insert.Goals as goal
 
 pub returns-in_err-proof_verdict : goal.returns-in_err-proof_verdict
@@ -25,34 +25,27 @@ returns-in_err-proof_verdict c =
     (later_rules Insert a.m a.p a.tag a.s.now []) (inserted_of a.height a.tag a.s.now)
     c.in_err-proof_verdict.was
 
-pub shown-requires : goal.shown-requires
-shown-requires c =
+pub stands_at-requires : goal.stands_at-requires
+stands_at-requires c =
     let a = c.args in
     form_sized a.s.now (fine-passed a.s.now a.p a.m
     (one_fine a.m a.p a.s.now c.proof_verdict.ensures c.in_ok-proof_verdict.was)).formed
 
-pub returns-then-repeated : goal.returns-then-repeated
-returns-then-repeated c =
+pub returns-then-stands_at : goal.returns-then-stands_at
+returns-then-stands_at c =
     let a = c.args in
     one_later a.m a.p a.s.now c.proof_verdict.ensures
     (later_rules Insert a.m a.p a.tag a.s.now []) (inserted_of a.height a.tag a.s.now)
     c.in_ok-proof_verdict.was
     (ap (λ x. cond x (Err Repeated) (Ok tt))
-    (ap (repeats_at a.p a.tag) (sym c.shown.ensures) ∙ sym c.repeated.ensures ∙ c.if-repeated.true))
+    (sym c.stands_at.ensures ∙ c.if-stands_at.true))
 
-pub insert-x-requires : goal.insert-x-requires
-insert-x-requires c =
+pub inserted-requires : goal.inserted-requires
+inserted-requires c =
     let a = c.args in
     let g = fine-passed a.s.now a.p a.m
     (one_fine a.m a.p a.s.now c.proof_verdict.ensures c.in_ok-proof_verdict.was) in
-    let s = form_sized a.s.now g.formed in
-    omega (arith, s.long)
-
-pub shown-requires-2 : goal.shown-requires-2
-shown-requires-2 c =
-    let a = c.args in
-    form_sized a.s.now (fine-passed a.s.now a.p a.m
-    (one_fine a.m a.p a.s.now c.proof_verdict.ensures c.in_ok-proof_verdict.was)).formed
+    (g.formed, omega (arith, g.counted, c.requires))
 
 pub returns : goal.returns
 returns c =
@@ -61,8 +54,5 @@ returns c =
     (later_rules Insert a.m a.p a.tag a.s.now []) (inserted_of a.height a.tag a.s.now)
     c.in_ok-proof_verdict.was
     (ap (λ x. cond x (Err Repeated) (Ok tt))
-    (ap (repeats_at a.p a.tag) (sym c.shown.ensures) ∙ sym c.repeated.ensures ∙ c.if-repeated.false))
-    c.shown-2.ensures
-    (insert_new a.s.now a.m c.requires (fine-passed a.s.now a.p a.m
-    (one_fine a.m a.p a.s.now c.proof_verdict.ensures c.in_ok-proof_verdict.was)) a.height a.tag refl
-    c.insert-x.ensures c.metadata_of.ensures)
+    (sym c.stands_at.ensures ∙ c.if-stands_at.false))
+    (ap (λ (x : Answer). x.tag) c.inserted.ensures) (ap (λ (x : Answer). x.metadata) c.inserted.ensures)

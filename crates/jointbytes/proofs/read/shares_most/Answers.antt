@@ -1,9 +1,7 @@
 -- `jointbytes::read::shares_most` meets its contract.
 -- Assumes nothing.
 use native.Mathlib.Omega.{arith}
-use mathlib.Core.Path.{◌≡◌, ◌∙◌}
-use Prim.Native.Nat.{◌+◌, ◌-◌, ◌*◌}
-use Rattle.octets.specs.Runs.{part}
+use mathlib.Core.Path.{refl, ◌∙◌}
 use Rattle.jointbytes.proofs.StandLaws.{test_over, test_all, test_none, test_held, test_next}
 use Rattle.jointbytes.proofs.read.shares_most.Goals.{then-k-q-2-via-then-k-q-2, then-k-q-2-via-else-k-q-2+then-q-eq0}
 use Rattle.jointbytes.proofs.read.shares_most.Goals as goal
@@ -35,24 +33,16 @@ overflow_add-at c =
     let h = test_held c.args.s.now c.args.i c.args.k c.args.q c.requires.2 c.requires.3 c.requires.1 c.if-k-q.false c.if-k-q-2.false c.holder-h.ensures in
     omega (arith, h.shares, h.owns, h.fits)
 
-pub overflow_add-at-2 : goal.overflow_add-at-2
-overflow_add-at-2 c =
-    let h = test_held c.args.s.now c.args.i c.args.k c.args.q c.requires.2 c.requires.3 c.requires.1 c.if-k-q.false c.if-k-q-2.false c.holder-h.ensures in
-    omega (arith, h.shares, h.owns, h.fits)
-
-pub slice_bounds-ne-end : goal.slice_bounds-ne-end
-slice_bounds-ne-end c =
+pub bytes_at-requires : goal.bytes_at-requires
+bytes_at-requires c =
     let h = test_held c.args.s.now c.args.i c.args.k c.args.q c.requires.2 c.requires.3 c.requires.1 c.if-k-q.false c.if-k-q-2.false c.holder-h.ensures in
     omega (arith, h.shares, h.owns, h.fits)
 
 pub returns : goal.returns
-unfolding part
 returns c =
     let q = c.args.q in
-    let g = c.holder-h.result in
     let l = c.if-k-q.false in
     let m = c.if-k-q-2.false in
     let h = test_held c.args.s.now c.args.i c.args.k q c.requires.2 c.requires.3 c.requires.1 l m c.holder-h.ensures in
-    let e : (g.from + 38 * (q.shared - g.shared) + 38) - (g.from + 38 * (q.shared - g.shared)) ≡ 38 = omega arith in
-    let d : (q.from + 38) - q.from ≡ 38 = omega arith in
-    c.ne.ensures ∙ test_next c.args.s.now c.args.i c.args.k q c.requires.2 c.requires.3 h l m c.if-q-eq0.false (rw (e, d))
+    c.ne.ensures ∙ test_next c.args.s.now c.args.i c.args.k q c.requires.2 c.requires.3 h l m c.if-q-eq0.false
+    (rw (c.bytes_at.ensures, c.bytes_at-2.ensures) refl)
