@@ -5,7 +5,7 @@
 use std::fmt::{self, Display};
 use std::io;
 
-// A digest in hexadecimal digits. A line is printed at once, and not byte by byte.
+// A digest in hexadecimal digits. It is printed at once, and not byte by byte.
 #[derive(Clone, Copy)]
 struct Hex([u8; 32]);
 
